@@ -1,0 +1,15 @@
+pub mod Counts
+pub mod FirstReference
+pub mod Found
+pub mod Integers
+pub mod IntervalLaw
+pub mod IntervalsHold
+pub mod IsALaw
+pub mod Items
+pub mod Numbers
+pub mod Ordered
+pub mod Rows
+pub mod SetsOfNodes
+pub mod SingleReference
+pub mod Totals
+pub mod WaysUp

@@ -1,0 +1,16 @@
+pub mod Front
+pub mod Hierarchy
+pub mod Intervals
+pub mod IntervalsHold
+pub mod Kinds
+pub mod Lists
+pub mod Meaning
+pub mod Nodes
+pub mod Numerics
+pub mod Renaming
+pub mod Satisfies
+pub mod Shape
+pub mod Spelling
+pub mod Tree
+pub mod Typed
+pub mod Widths
