@@ -1,7 +1,7 @@
 -- How many nodes a set of nodes of some clafers has.
-use Rattle.std.proofs.Common.{◌≡◌, ℕ, zero, suc, ◌+◌, ◌<◌, ◌≤◌, Bool, true, false, ◌&&◌, ◌||◌, List, [], ◌∷◌, ◌++◌, length, map, Option, Some, None, cond, refl, ap, sym, subst, ◌∙◌, arith, ℤ, pos, ◌+ℤ◌, ◌*ℤ◌, neg_ℤ, ◌≤ℤ◌}
-use Rattle.std.specs.Prelude.{◌==◌, nat_lt, not, sum, slice_get, int_le}
-use Rattle.std.specs.Option.{option_map_or, option_and_then, option_to_list}
+use Rattle.std.proofs.Common.{◌≡◌, ℕ, ◌+◌, ◌<◌, ◌≤◌, Bool, true, false, ◌&&◌, List, [], ◌∷◌, ◌++◌, length, map, Option, Some, None, cond, refl, ap, sym, subst, ◌∙◌, arith}
+use Rattle.std.specs.Prelude.{nat_lt, not, sum, slice_get}
+use Rattle.std.specs.Option.{option_map_or, option_to_list}
 use Rattle.std.specs.List.{filter, list_any, list_all, IsDistinct, AllByRecursion, range_with_len}
 use Rattle.std.specs.Cmp.{IsEquivalence}
 use Rattle.std.proofs.lemmas.Grind.{common_steps}
@@ -14,7 +14,7 @@ use Rattle.clf_tree.specs.declared.model.Clafer.{Clafer}
 use Rattle.clf_tree.specs.declared.instance.Node.{Node}
 use Rattle.clf_tree.specs.declared.instance.Entry.{Entry}
 use Rattle.clf_tree.specs.declared.scopes.Scopes.{Scopes}
-use Rattle.clf_tree.specs.Lists.{each_two, numbers_below}
+use Rattle.clf_tree.specs.Lists.{numbers_below}
 use Rattle.clf_tree.specs.Hierarchy.{is_one_of, is_concrete}
 use Rattle.clf_tree.specs.Nodes.{same_node, is_before, has_node, nodes_of, scope_of, is_within, is_ordered, named_by}
 use Rattle.clf_tree.specs.Meaning.{nodes_where}

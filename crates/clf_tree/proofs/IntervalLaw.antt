@@ -1,8 +1,8 @@
 -- The value of an integer expression lies in its interval.
-use Rattle.std.proofs.Common.{◌≡◌, ℕ, zero, suc, ◌+◌, ◌-◌, ◌*◌, ◌^◌, ◌<◌, ◌≤◌, Bool, true, false, ◌&&◌, List, [], ◌∷◌, ◌++◌, length, map, cond, Option, Some, None, refl, ap, sym, subst, ◌∙◌, arith, ℤ, pos, negsuc, ◌+ℤ◌, ◌-ℤ◌, ◌*ℤ◌, neg_ℤ, ◌≤ℤ◌, ◌<ℤ◌}
-use Rattle.std.specs.Prelude.{nat_le, int_le, int_lt, sum, if◌then◌else◌}
+use Rattle.std.proofs.Common.{◌≡◌, ℕ, ◌-◌, ◌^◌, ◌≤◌, Bool, true, false, ◌&&◌, List, [], ◌∷◌, ◌++◌, length, map, cond, Option, Some, None, refl, sym, subst, ◌∙◌, arith, ℤ, pos, ◌+ℤ◌, ◌-ℤ◌, ◌*ℤ◌, neg_ℤ, ◌≤ℤ◌, ◌<ℤ◌}
+use Rattle.std.specs.Prelude.{nat_le, int_le, int_lt, if◌then◌else◌}
 use Rattle.std.specs.Int.{int_min, int_max}
-use Rattle.std.specs.Option.{option_map, option_map_or, option_and_then}
+use Rattle.std.specs.Option.{option_map, option_map_or}
 use Rattle.std.specs.List.{find, list_all, range_with_len}
 use Rattle.std.proofs.lemmas.Grind.{common_steps}
 use Rattle.std.proofs.lemmas.Bool.{true≢false}
@@ -15,7 +15,7 @@ use Rattle.clf_tree.specs.Widths.{width, is_held}
 use Rattle.clf_tree.specs.Intervals.{between, clamped, product, room, members, sum_between, choice, interval}
 use Rattle.clf_tree.specs.Typed.{fits_truth, fits_nodes, fits_number, fits_sum, fit_choice, is_typed}
 use Rattle.clf_tree.specs.Numerics.{Numeric, numeric, inside, is_narrow, all_narrow, is_integer, and_itself}
-use Rattle.clf_tree.specs.Kinds.{kind, clafers_of, parents_of, dref_kind, union_kind, nodes_kind, left_kind, compared_kind, reading, parent_kind, branch_kind}
+use Rattle.clf_tree.specs.Kinds.{kind, clafers_of, parents_of, dref_kind, union_kind, left_kind, compared_kind, reading, parent_kind}
 use Rattle.clf_tree.specs.Meaning as meaning
 use Rattle.clf_tree.specs.Meaning.{Value, Situation, value, number, total, int_of, nodes, is_true, taken_as}
 use Rattle.clf_tree.specs.declared.kind.Kind.{Kind}

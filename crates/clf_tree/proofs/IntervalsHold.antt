@@ -1,5 +1,5 @@
 -- The law of intervals, from the tests.
-use Rattle.std.proofs.Common.{◌≡◌, ℕ, ◌<◌, Bool, true, false, not, ◌&&◌, ◌||◌, List, [], ◌∷◌, length, Option, Some, None, refl, ap, sym, subst, ◌∙◌, arith, IsTrue}
+use Rattle.std.proofs.Common.{◌≡◌, ℕ, ◌<◌, Bool, true, false, not, ◌&&◌, ◌||◌, List, [], ◌∷◌, length, Option, Some, None, refl, sym, subst, ◌∙◌, arith, IsTrue}
 use Rattle.std.specs.Prelude.{◌==◌, slice_get, is_some}
 use Rattle.std.specs.Option.{option_and_then, option_map_or}
 use Rattle.std.specs.List.{list_all}
@@ -9,18 +9,16 @@ use Rattle.std.proofs.lemmas.Option.{slice_get_within}
 use Rattle.clf_tree.specs.declared.model.Clafer.{Clafer}
 use Rattle.clf_tree.specs.declared.instance.Node.{Node}
 use Rattle.clf_tree.specs.declared.instance.Entry.{Entry}
-use Rattle.clf_tree.specs.declared.scopes.Scopes.{Scopes}
 use Rattle.clf_tree.specs.Lists.{from_end, numbers_below, each_two}
-use Rattle.clf_tree.specs.Hierarchy.{is_closed, is_a, is_one_of, own_reference, IsA}
+use Rattle.clf_tree.specs.Hierarchy.{is_closed, is_a, is_one_of, own_reference}
 use Rattle.clf_tree.specs.Nodes.{same_node, has_node, nodes_of}
 use Rattle.clf_tree.specs.Shape.{has_shape, meets_times, meets_group, meets_reference, differ}
-use Rattle.clf_tree.specs.Meaning.{Situation}
-use Rattle.clf_tree.specs.IntervalsHold.{refers_once, StandsFor, IsSituation, LiesIn, IntervalsHold}
+use Rattle.clf_tree.specs.IntervalsHold.{refers_once, StandsFor, IntervalsHold}
 use Rattle.clf_tree.proofs.Items.{In, found, all_in, and_left, and_right, in_range, image}
 use Rattle.clf_tree.proofs.IsALaw.{is_a_from_closure}
 use Rattle.clf_tree.proofs.SingleReference.{IsSingle}
 use Rattle.clf_tree.proofs.Counts.{Belongs, same_equal}
-use Rattle.clf_tree.proofs.SetsOfNodes.{IsSound, IsPlace}
+use Rattle.clf_tree.proofs.SetsOfNodes.{IsSound}
 use Rattle.clf_tree.proofs.IntervalLaw.{interval_law}
 
 truth : (b : Bool) → IsTrue b → b ≡ true

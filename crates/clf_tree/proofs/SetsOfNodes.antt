@@ -1,11 +1,10 @@
 -- The value of an expression of nodes is a set of nodes of its kind.
-use Rattle.std.proofs.Common.{◌≡◌, ℕ, zero, suc, ◌+◌, ◌<◌, ◌≤◌, Bool, true, false, ◌&&◌, ◌||◌, List, [], ◌∷◌, ◌++◌, length, map, Option, Some, None, cond, refl, ap, sym, subst, ◌∙◌, arith, ◌⊎◌, inl, inr}
-use Rattle.std.specs.Prelude.{◌==◌, nat_lt, not, slice_get, is_none, is_some, if◌then◌else◌}
+use Rattle.std.proofs.Common.{◌≡◌, ℕ, ◌<◌, Bool, true, false, ◌&&◌, ◌||◌, List, [], ◌∷◌, ◌++◌, length, Option, Some, None, refl, ap, sym, subst, ◌∙◌, arith}
+use Rattle.std.specs.Prelude.{◌==◌, not, slice_get, is_none, is_some, if◌then◌else◌}
 use Rattle.std.specs.Option.{option_map, option_map_or, option_and_then}
-use Rattle.std.specs.List.{filter, filter_map, list_any, list_all, IsDistinct, AllByRecursion, cons_option}
+use Rattle.std.specs.List.{filter, filter_map, list_any, list_all, IsDistinct, cons_option}
 use Rattle.std.proofs.lemmas.Grind.{common_steps}
 use Rattle.std.proofs.lemmas.Bool.{true≢false}
-use Rattle.std.proofs.lemmas.Option.{slice_get_within}
 use Rattle.std.proofs.lemmas.List.Folds.{list_any-append}
 use Rattle.clf_tree.specs.declared.model.Clafer.{Clafer}
 use Rattle.clf_tree.specs.declared.model.Reference.{Reference}
@@ -14,23 +13,22 @@ use Rattle.clf_tree.specs.declared.instance.Target.{Target}
 use Rattle.clf_tree.specs.declared.instance.Target.TheVariants as target
 use Rattle.clf_tree.specs.declared.instance.Entry.{Entry}
 use Rattle.clf_tree.specs.declared.scopes.Scopes.{Scopes}
-use Rattle.clf_tree.specs.declared.kind.Within.{Within}
 use Rattle.clf_tree.specs.declared.kind.Kind.{Kind}
 use Rattle.clf_tree.specs.declared.kind.Kind.TheVariants as kinds
 use Rattle.clf_tree.specs.declared.kind.Reading.{Reading}
 use Rattle.clf_tree.specs.Tree as e
 use Rattle.clf_tree.specs.Tree.{Tree}
-use Rattle.clf_tree.specs.Lists.{each_two, numbers_below, has, from_end}
-use Rattle.clf_tree.specs.Hierarchy.{is_a, is_one_of, is_concrete, is_closed, parent_of, owners, concrete_below, reference_of, target_of, targets_of, refer_to_int, share, names_below, is_below, IsA}
+use Rattle.clf_tree.specs.Lists.{numbers_below, has, from_end}
+use Rattle.clf_tree.specs.Hierarchy.{is_a, is_one_of, is_concrete, is_closed, parent_of, concrete_below, reference_of, target_of, refer_to_int, share, names_below, is_below}
 use Rattle.clf_tree.specs.Nodes.{same_node, has_node, has_some, nodes_of, target_node, node_in, is_within, is_ordered, is_tree, has_its_parent, ends_within, named_by}
 use Rattle.clf_tree.specs.Shape.{meets_reference, refers, instances}
-use Rattle.clf_tree.specs.Kinds.{kind, clafers_of, is_child, has_child_in, parents_of, parent_kind, dref_kind, nodes_kind, union_kind, left_kind, compared_kind, reading, reading_of, branch_kind}
+use Rattle.clf_tree.specs.Kinds.{kind, clafers_of, is_child, has_child_in, parents_of, parent_kind, dref_kind, union_kind, left_kind, compared_kind, reading, reading_of, branch_kind}
 use Rattle.clf_tree.specs.Meaning as meaning
 use Rattle.clf_tree.specs.Meaning.{Value, Situation, value, nodes, nodes_where, parents, targets, children, dref, taken_as, is_true}
 use Rattle.clf_tree.proofs.IsALaw.{closure_from_is_a}
 use Rattle.clf_tree.proofs.WaysUp.{list_all-at}
-use Rattle.clf_tree.proofs.Items.{In, first, later, found, any_in, all_in, and_left, and_right, or_left, or_right, or_none, kept, in_filter, image, in_range}
-use Rattle.clf_tree.proofs.Counts.{entry_slot, Belongs, IsSet, set_where, set_filtered, concrete_below as below_length, same_equal, same_refl}
+use Rattle.clf_tree.proofs.Items.{In, first, later, found, any_in, all_in, and_left, and_right, or_left, or_right, kept, in_filter, image, in_range}
+use Rattle.clf_tree.proofs.Counts.{entry_slot, Belongs, IsSet, set_where, set_filtered, concrete_below as below_length, same_equal}
 use Rattle.clf_tree.proofs.SingleReference.{IsSingle, same_reference}
 
 -- an instance within the scopes that is a tree of the right shape

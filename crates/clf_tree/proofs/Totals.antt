@@ -1,5 +1,5 @@
 -- The sum of the integers of a set of nodes.
-use Rattle.std.proofs.Common.{◌≡◌, ℕ, zero, suc, ◌+◌, ◌-◌, ◌<◌, ◌≤◌, Bool, true, false, ◌&&◌, List, [], ◌∷◌, length, map, cond, Option, Some, None, refl, ap, sym, subst, ◌∙◌, arith, ℤ, pos, ◌+ℤ◌, ◌*ℤ◌, neg_ℤ, ◌≤ℤ◌}
+use Rattle.std.proofs.Common.{◌≡◌, ℕ, zero, suc, ◌+◌, ◌-◌, ◌≤◌, Bool, true, false, ◌&&◌, List, [], ◌∷◌, length, map, cond, Option, Some, None, refl, sym, subst, arith, ℤ, pos, ◌+ℤ◌, ◌*ℤ◌, ◌≤ℤ◌}
 use Rattle.std.specs.Prelude.{int_le, is_none}
 use Rattle.std.specs.Int.{int_min, int_max}
 use Rattle.std.specs.Option.{option_map_or, option_and_then}
@@ -14,11 +14,11 @@ use Rattle.clf_tree.specs.declared.instance.Target.TheVariants as target
 use Rattle.clf_tree.specs.declared.instance.Entry.{Entry}
 use Rattle.clf_tree.specs.declared.scopes.Scopes.{Scopes}
 use Rattle.clf_tree.specs.Hierarchy.{reference_of}
-use Rattle.clf_tree.specs.Nodes.{same_node, entry_of, fits_range}
+use Rattle.clf_tree.specs.Nodes.{same_node, entry_of}
 use Rattle.clf_tree.specs.Shape.{meets_reference, refers}
 use Rattle.clf_tree.specs.Meaning.{total, int_in, int_of}
 use Rattle.clf_tree.proofs.Items.{In, first, later, all_in, and_left, and_right}
-use Rattle.clf_tree.proofs.Integers.{mul_suc, times_le}
+use Rattle.clf_tree.proofs.Integers.{mul_suc}
 
 -- between the least and the greatest integer of the range, or 0
 pub record IsMiddle (scopes : Scopes) (z : ℤ) : Type 0 where

@@ -1,5 +1,5 @@
 -- Between which integers an expression lies.
-use Rattle.std.specs.Prelude.{ℕ, ◌^◌, ◌-◌, List, [], length, sum, map, Option, Some, None, ℤ, pos, ◌+ℤ◌, ◌*ℤ◌, neg_ℤ}
+use Rattle.std.specs.Prelude.{ℕ, ◌^◌, ◌-◌, List, [], length, sum, map, Option, Some, ℤ, pos, ◌+ℤ◌, ◌*ℤ◌, neg_ℤ}
 use Rattle.std.specs.Int.{int_min, int_max}
 use Rattle.std.specs.List.{filter}
 use Rattle.clf_tree.specs.declared.model.Clafer.{Clafer}

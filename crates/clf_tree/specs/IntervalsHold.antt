@@ -1,5 +1,5 @@
 -- The law of intervals: in an instance, an integer expression lies in its interval.
-use Rattle.std.specs.Prelude.{◌≡◌, ℕ, ◌==◌, ◌&&◌, ◌||◌, Bool, not, List, [], ◌∷◌, length, Option, Some, IsTrue, ℤ, ◌≤ℤ◌, is_some}
+use Rattle.std.specs.Prelude.{◌≡◌, ℕ, ◌==◌, ◌&&◌, ◌||◌, Bool, not, List, [], ◌∷◌, length, Some, IsTrue, ℤ, ◌≤ℤ◌, is_some}
 use Rattle.std.specs.List.{list_all}
 use Rattle.clf_tree.specs.declared.model.Clafer.{Clafer}
 use Rattle.clf_tree.specs.declared.instance.Node.{Node}

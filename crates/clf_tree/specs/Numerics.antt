@@ -1,5 +1,5 @@
 -- The integer expressions of an expression, with their places and intervals.
-use Rattle.std.specs.Prelude.{ℕ, ◌&&◌, Bool, true, false, List, [], ◌∷◌, ◌++◌, length, nat_le, Option, Some, None}
+use Rattle.std.specs.Prelude.{Bool, true, false, List, [], ◌∷◌, ◌++◌, length, nat_le, Option, Some}
 use Rattle.std.specs.List.{list_all}
 use Rattle.clf_base.specs.declared.fault.Span.{Span}
 use Rattle.clf_tree.specs.declared.model.Clafer.{Clafer}
@@ -9,7 +9,7 @@ use Rattle.clf_tree.specs.declared.kind.Within.{Within}
 use Rattle.clf_tree.specs.declared.kind.Kind.{Kind}
 use Rattle.clf_tree.specs.declared.kind.Kind.TheVariants as kinds
 use Rattle.clf_tree.specs.declared.kind.Reading.{Reading}
-use Rattle.clf_tree.specs.declared.kind.Reading.TheVariants.{ByValues, ByNodes}
+use Rattle.clf_tree.specs.declared.kind.Reading.TheVariants.{ByValues}
 use Rattle.clf_tree.specs.Tree as e
 use Rattle.clf_tree.specs.Tree.{Tree}
 use Rattle.clf_tree.specs.Kinds.{kind, clafers_of, bind_kinds, reading_of}

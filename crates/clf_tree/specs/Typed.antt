@@ -1,5 +1,5 @@
 -- Whether each expression has a kind and each operand fits its position.
-use Rattle.std.specs.Prelude.{ℕ, ◌&&◌, Bool, true, false, List, length, Option, Some, None, is_some}
+use Rattle.std.specs.Prelude.{◌&&◌, Bool, true, false, List, length, Option, Some, None, is_some}
 use Rattle.clf_tree.specs.declared.model.Clafer.{Clafer}
 use Rattle.clf_tree.specs.declared.kind.Within.{Within}
 use Rattle.clf_tree.specs.declared.kind.Kind.{Kind}

@@ -17,6 +17,8 @@ mod readings;
 mod references;
 mod scopes;
 mod spelling;
+#[cfg(test)]
+mod tests;
 mod token;
 mod vector;
 

@@ -1,4 +1,4 @@
-use Rattle.std.proofs.Common.{◌≡◌, ◌&&◌, length, sym, ◌∙◌, arith}
+use Rattle.std.proofs.Common.{◌&&◌, length, sym, ◌∙◌, arith}
 use Rattle.clf_tree.specs.Hierarchy.{is_one_of}
 use Rattle.clf_tree.proofs.Numbers.{any-some}
 use Rattle.clf_tree.proofs.references.share.Goals as goal
