@@ -1,0 +1,10 @@
+pub mod Digits
+pub mod Longest
+pub mod Tables
+pub mod Cutting
+pub mod Laying
+pub mod Unique
+pub mod Counted
+pub mod Boundaries
+pub mod Ordered
+pub mod Ascending
