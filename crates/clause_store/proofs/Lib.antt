@@ -1,0 +1,2 @@
+pub mod ResolutionSound
+pub mod Bounds
