@@ -1,11 +1,11 @@
 -- The values of the wires of a circuit that grows, and that there is one list of them.
-use Rattle.std.proofs.Common.{◌≡◌, ℕ, suc, zero, ◌+◌, ◌<◌, ◌≤◌, Bool, false, not, List, [], ◌∷◌, ◌++◌, length, get_or, take, fold, slice_get, Some, refl, sym, ap, ◌∙◌, subst, arith, inl, inr}
+use Rattle.std.proofs.Common.{◌≡◌, ℕ, suc, zero, ◌+◌, ◌<◌, ◌≤◌, Bool, false, not, List, [], ◌∷◌, ◌++◌, length, get_or, take, fold, slice_get, Some, refl, sym, ap, ◌∙◌, subst, arith, inl, inr, append-nil, zero-add}
 use Rattle.std.proofs.lemmas.List.{get_or_append_left, get_or_push, length_push, take_more, length-take-le}
 use Rattle.std.proofs.lemmas.Option.{slice_get_within, get_or_from_slice_get}
 use Rattle.bool_circuit.specs.declared.gate.Wire.{Wire}
 use Rattle.bool_circuit.specs.declared.gate.Gate.{Gate}
 use Rattle.bool_circuit.specs.declared.gate.Gate.TheVariants.{Input, Constant, Not, And, Or, Xor, Choose}
-use Rattle.bool_circuit.specs.Circuit.{entry, gate_value, values, wire_value, inputs, IsGateBelow, AreBehind, IsCircuit, IsWireOf, IsGateAdded, Extends}
+use Rattle.bool_circuit.specs.Circuit.{entry, gate_value, values, wire_value, inputs_from, input_wires, inputs, AreNumbered, IsGateBelow, AreBehind, IsCircuit, IsWireOf, IsGateAdded, Extends}
 
 -- the values of the first gates, followed by those of `gates`
 abbrev pub more_values : List Bool → List Bool → List Gate → List Bool
@@ -85,15 +85,59 @@ values_at bits m gates i g b at = let z : 0 + i ≡ i = omega arith in rw z at (
 
 -- ---- a circuit with one gate more
 
-pub inputs-append : (gates hs : List Gate) → inputs (gates ++ hs) ≡ inputs gates + inputs hs
-inputs-append [] hs = omega arith
-inputs-append (Input k ∷ gates) hs = omega (arith, inputs-append gates hs)
-inputs-append (Constant b ∷ gates) hs = inputs-append gates hs
-inputs-append (Not a ∷ gates) hs = inputs-append gates hs
-inputs-append (And a b ∷ gates) hs = inputs-append gates hs
-inputs-append (Or a b ∷ gates) hs = inputs-append gates hs
-inputs-append (Xor a b ∷ gates) hs = inputs-append gates hs
-inputs-append (Choose p a b ∷ gates) hs = inputs-append gates hs
+pub inputs_from-append : (n : ℕ) (gates hs : List Gate) → inputs_from n (gates ++ hs) ≡ inputs_from n gates ++ inputs_from (n + length gates) hs
+inputs_from-append n [] hs = let z : n + 0 ≡ n = omega arith in rw z refl
+inputs_from-append n (Input k ∷ gates) hs = let z : n + suc (length gates) ≡ (n + 1) + length gates = omega arith in rw z (ap (λ ws. n ∷ ws) (inputs_from-append (n + 1) gates hs))
+inputs_from-append n (Constant b ∷ gates) hs = let z : n + suc (length gates) ≡ (n + 1) + length gates = omega arith in rw z (inputs_from-append (n + 1) gates hs)
+inputs_from-append n (Not a ∷ gates) hs = let z : n + suc (length gates) ≡ (n + 1) + length gates = omega arith in rw z (inputs_from-append (n + 1) gates hs)
+inputs_from-append n (And a b ∷ gates) hs = let z : n + suc (length gates) ≡ (n + 1) + length gates = omega arith in rw z (inputs_from-append (n + 1) gates hs)
+inputs_from-append n (Or a b ∷ gates) hs = let z : n + suc (length gates) ≡ (n + 1) + length gates = omega arith in rw z (inputs_from-append (n + 1) gates hs)
+inputs_from-append n (Xor a b ∷ gates) hs = let z : n + suc (length gates) ≡ (n + 1) + length gates = omega arith in rw z (inputs_from-append (n + 1) gates hs)
+inputs_from-append n (Choose p a b ∷ gates) hs = let z : n + suc (length gates) ≡ (n + 1) + length gates = omega arith in rw z (inputs_from-append (n + 1) gates hs)
+
+no_more_inputs : (n : ℕ) (g : Gate) → inputs (g ∷ []) ≡ 0 → inputs_from n (g ∷ []) ≡ []
+no_more_inputs n (Input k) none = absurd (omega arith)
+no_more_inputs n (Constant b) none = refl
+no_more_inputs n (Not a) none = refl
+no_more_inputs n (And a b) none = refl
+no_more_inputs n (Or a b) none = refl
+no_more_inputs n (Xor a b) none = refl
+no_more_inputs n (Choose p a b) none = refl
+
+-- a gate that is no input leaves the inputs as they were
+pub input_wires-push : (gates : List Gate) (g : Gate) → inputs (g ∷ []) ≡ 0 → input_wires (gates ++ g ∷ []) ≡ input_wires gates
+input_wires-push gates g none =
+    inputs_from-append 0 gates (g ∷ []) ∙ ap (λ ws. input_wires gates ++ ws) (no_more_inputs (0 + length gates) g none) ∙ append-nil (input_wires gates)
+
+-- an input is one more
+pub inputs-input : (gates : List Gate) (k : ℕ) → inputs (gates ++ Input k ∷ []) ≡ inputs gates + 1
+inputs-input gates k = ap length (inputs_from-append 0 gates (Input k ∷ [])) ∙ length_push (input_wires gates) (0 + length gates)
+
+AreNumbered-push : (k : ℕ) (gates : List Gate) (g : Gate) → inputs (g ∷ []) ≡ 0 → AreNumbered k gates → AreNumbered k (gates ++ g ∷ [])
+AreNumbered-push k [] (Input j) none h = absurd (omega arith)
+AreNumbered-push k [] (Constant b) none h = tt
+AreNumbered-push k [] (Not a) none h = tt
+AreNumbered-push k [] (And a b) none h = tt
+AreNumbered-push k [] (Or a b) none h = tt
+AreNumbered-push k [] (Xor a b) none h = tt
+AreNumbered-push k [] (Choose p a b) none h = tt
+AreNumbered-push k (Input j ∷ gates) g none h = (h.0, AreNumbered-push (k + 1) gates g none h.1)
+AreNumbered-push k (Constant b ∷ gates) g none h = AreNumbered-push k gates g none h
+AreNumbered-push k (Not a ∷ gates) g none h = AreNumbered-push k gates g none h
+AreNumbered-push k (And a b ∷ gates) g none h = AreNumbered-push k gates g none h
+AreNumbered-push k (Or a b ∷ gates) g none h = AreNumbered-push k gates g none h
+AreNumbered-push k (Xor a b ∷ gates) g none h = AreNumbered-push k gates g none h
+AreNumbered-push k (Choose p a b ∷ gates) g none h = AreNumbered-push k gates g none h
+
+AreNumbered-input : (k n : ℕ) (gates : List Gate) → AreNumbered k gates → AreNumbered k (gates ++ Input (k + length (inputs_from n gates)) ∷ [])
+AreNumbered-input k n [] h = (omega arith, tt)
+AreNumbered-input k n (Input j ∷ gates) h = let z : k + suc (length (inputs_from (n + 1) gates)) ≡ (k + 1) + length (inputs_from (n + 1) gates) = omega arith in (h.0, rw z (AreNumbered-input (k + 1) (n + 1) gates h.1))
+AreNumbered-input k n (Constant b ∷ gates) h = AreNumbered-input k (n + 1) gates h
+AreNumbered-input k n (Not a ∷ gates) h = AreNumbered-input k (n + 1) gates h
+AreNumbered-input k n (And a b ∷ gates) h = AreNumbered-input k (n + 1) gates h
+AreNumbered-input k n (Or a b ∷ gates) h = AreNumbered-input k (n + 1) gates h
+AreNumbered-input k n (Xor a b ∷ gates) h = AreNumbered-input k (n + 1) gates h
+AreNumbered-input k n (Choose p a b ∷ gates) h = AreNumbered-input k (n + 1) gates h
 
 pub AreBehind-push : (m n : ℕ) (gates : List Gate) (g : Gate) → AreBehind m n gates → IsGateBelow m (n + length gates) g → AreBehind m n (gates ++ g ∷ [])
 AreBehind-push m n [] g a b = (let z : n + 0 ≡ n = omega arith in rw z at b, tt)
@@ -102,7 +146,8 @@ AreBehind-push m n (h ∷ gates) g a b =
 
 pub IsCircuit-push : (m : ℕ) (gates : List Gate) (g : Gate) → IsCircuit m gates → inputs (g ∷ []) ≡ 0 → IsGateBelow m (length gates) g → length gates < 268435456 → IsCircuit m (gates ++ g ∷ [])
 IsCircuit-push m gates g c none b room = record {
-  input_count = omega (arith, c.input_count, inputs-append gates (g ∷ []), none);
+  input_count = ap length (input_wires-push gates g none) ∙ c.input_count;
+  numbered = AreNumbered-push 0 gates g none c.numbered;
   behind = AreBehind-push m 0 gates g c.behind (let z : 0 + length gates ≡ length gates = omega arith in rw z b);
   few = omega (arith, length_push gates g);
 }
@@ -120,7 +165,7 @@ unfolding wire_value
 Extends-push gates g n none h = record {
   at_least = omega (arith, length_push gates g);
   at_most = omega (arith, length_push gates g);
-  same_inputs = omega (arith, inputs-append gates (g ∷ []), none);
+  same_inputs = input_wires-push gates g none;
   keeps = λ w inside bits. rw (values-push bits gates g) (get_or_append_left (values bits gates) (gate_value bits (entry (values bits gates)) g ∷ []) false w.number (omega (arith, length-values bits gates)));
 }
 
@@ -179,15 +224,18 @@ pub AreBehind-more : (m n : ℕ) (gates : List Gate) → AreBehind m n gates →
 AreBehind-more m n [] b = tt
 AreBehind-more m n (g ∷ gates) b = (IsGateBelow-more m n g b.0, AreBehind-more m (n + 1) gates b.1)
 
+inputs_from_le : (n : ℕ) (gates : List Gate) → length (inputs_from n gates) ≤ length gates
+inputs_from_le n [] = omega arith
+inputs_from_le n (Input k ∷ gates) = omega (arith, inputs_from_le (n + 1) gates)
+inputs_from_le n (Constant b ∷ gates) = omega (arith, inputs_from_le (n + 1) gates)
+inputs_from_le n (Not a ∷ gates) = omega (arith, inputs_from_le (n + 1) gates)
+inputs_from_le n (And a b ∷ gates) = omega (arith, inputs_from_le (n + 1) gates)
+inputs_from_le n (Or a b ∷ gates) = omega (arith, inputs_from_le (n + 1) gates)
+inputs_from_le n (Xor a b ∷ gates) = omega (arith, inputs_from_le (n + 1) gates)
+inputs_from_le n (Choose p a b ∷ gates) = omega (arith, inputs_from_le (n + 1) gates)
+
 pub inputs_le : (gates : List Gate) → inputs gates ≤ length gates
-inputs_le [] = omega arith
-inputs_le (Input k ∷ gates) = omega (arith, inputs_le gates)
-inputs_le (Constant b ∷ gates) = omega (arith, inputs_le gates)
-inputs_le (Not a ∷ gates) = omega (arith, inputs_le gates)
-inputs_le (And a b ∷ gates) = omega (arith, inputs_le gates)
-inputs_le (Or a b ∷ gates) = omega (arith, inputs_le gates)
-inputs_le (Xor a b ∷ gates) = omega (arith, inputs_le gates)
-inputs_le (Choose p a b ∷ gates) = omega (arith, inputs_le gates)
+inputs_le gates = inputs_from_le 0 gates
 
 -- the next input stands behind all gates
 pub record IsInputAdded (m : ℕ) (old new : List Gate) (w : Wire) : Type 0 where
@@ -205,7 +253,8 @@ input_added m old new w a c room =
             gates = e;
             last = last_of old w.number m at (λ at. no_next_input m 0 old w.number c.behind at);
             circuit = subst (IsCircuit (m + 1)) (sym e) (record {
-              input_count = omega (arith, c.input_count, inputs-append old (Input m ∷ []));
+              input_count = inputs-input old m ∙ ap (λ k. k + 1) c.input_count;
+              numbered = subst (λ k. AreNumbered 0 (old ++ Input k ∷ [])) (zero-add (inputs old) ∙ c.input_count) (AreNumbered-input 0 0 old c.numbered);
               behind = AreBehind-push (m + 1) 0 old (Input m) (AreBehind-more m 0 old c.behind) (omega arith);
               few = omega (arith, length_push old (Input m));
             });
@@ -255,3 +304,76 @@ pub wire_value_only : (m : ℕ) (gates : List Gate) (bits : List Bool) (u : ℕ 
 unfolding wire_value values
 wire_value_only m gates bits u b each w h =
     more_values_only bits [] u m 0 gates refl b (λ i h. absurd (omega arith)) (λ i g at. let z : 0 + i ≡ i = omega arith in rw z (each i g at)) w.number (omega arith)
+
+-- ---- inputs and their wires
+
+-- the wire of an input is the one that its number tells
+pub record IsInputAt (n k i : ℕ) (gates : List Gate) (j : ℕ) : Type 0 where
+  pub more : ℕ
+  pub number : j ≡ k + more
+  pub few : more < length (inputs_from n gates)
+  pub wire : get_or (inputs_from n gates) more 0 ≡ n + i
+
+later : (n k i : ℕ) (g : Gate) (gates : List Gate) (j : ℕ) → inputs_from n (g ∷ gates) ≡ inputs_from (n + 1) gates → IsInputAt (n + 1) k i gates j → IsInputAt n k (suc i) (g ∷ gates) j
+later n k i g gates j e r = record {
+  more = r.more;
+  number = r.number;
+  few = omega (arith, ap length e, r.few);
+  wire = ap (λ ws. get_or ws r.more 0) e ∙ r.wire ∙ (let z : (n + 1) + i ≡ n + suc i = omega arith in z);
+}
+
+pub input_number : (n k i : ℕ) (gates : List Gate) (j : ℕ) → AreNumbered k gates → slice_get gates i ≡ Some (Input j) → IsInputAt n k i gates j
+input_number n k i [] j a at = cc
+input_number n k zero (Input l ∷ gates) j a at =
+    let same : Input l ≡ Input j = grind arith in
+    let e : l ≡ j = cc in
+    record { more = 0; number = omega (arith, a.0); few = omega arith; wire = omega arith }
+input_number n k (suc i) (Input l ∷ gates) j a at =
+    let r : IsInputAt (n + 1) (k + 1) i gates j = input_number (n + 1) (k + 1) i gates j a.1 at in
+    record { more = suc r.more; number = omega (arith, r.number); few = omega (arith, r.few); wire = r.wire ∙ (let z : (n + 1) + i ≡ n + suc i = omega arith in z) }
+input_number n k zero (Constant y ∷ gates) j a at = let same : Constant y ≡ Input j = grind arith in cc
+input_number n k (suc i) (Constant y ∷ gates) j a at = later n k i (Constant y) gates j refl (input_number (n + 1) k i gates j a at)
+input_number n k zero (Not x ∷ gates) j a at = let same : Not x ≡ Input j = grind arith in cc
+input_number n k (suc i) (Not x ∷ gates) j a at = later n k i (Not x) gates j refl (input_number (n + 1) k i gates j a at)
+input_number n k zero (And x y ∷ gates) j a at = let same : And x y ≡ Input j = grind arith in cc
+input_number n k (suc i) (And x y ∷ gates) j a at = later n k i (And x y) gates j refl (input_number (n + 1) k i gates j a at)
+input_number n k zero (Or x y ∷ gates) j a at = let same : Or x y ≡ Input j = grind arith in cc
+input_number n k (suc i) (Or x y ∷ gates) j a at = later n k i (Or x y) gates j refl (input_number (n + 1) k i gates j a at)
+input_number n k zero (Xor x y ∷ gates) j a at = let same : Xor x y ≡ Input j = grind arith in cc
+input_number n k (suc i) (Xor x y ∷ gates) j a at = later n k i (Xor x y) gates j refl (input_number (n + 1) k i gates j a at)
+input_number n k zero (Choose z x y ∷ gates) j a at = let same : Choose z x y ≡ Input j = grind arith in cc
+input_number n k (suc i) (Choose z x y ∷ gates) j a at = later n k i (Choose z x y) gates j refl (input_number (n + 1) k i gates j a at)
+
+-- and each of these wires is driven by an input, by the one that its place tells
+pub record IsInputOf (n k d : ℕ) (gates : List Gate) : Type 0 where
+  pub at : ℕ
+  pub wire : get_or (inputs_from n gates) d 0 ≡ n + at
+  pub gate : slice_get gates at ≡ Some (Input (k + d))
+
+beyond : (n k d : ℕ) (g : Gate) (gates : List Gate) → inputs_from n (g ∷ gates) ≡ inputs_from (n + 1) gates → IsInputOf (n + 1) k d gates → IsInputOf n k d (g ∷ gates)
+beyond n k d g gates e r = record {
+  at = suc r.at;
+  wire = ap (λ ws. get_or ws d 0) e ∙ r.wire ∙ (let z : (n + 1) + r.at ≡ n + suc r.at = omega arith in z);
+  gate = r.gate;
+}
+
+pub input_at : (n k d : ℕ) (gates : List Gate) → AreNumbered k gates → d < length (inputs_from n gates) → IsInputOf n k d gates
+input_at n k d [] h l = absurd (omega arith)
+input_at n k zero (Input j ∷ gates) h l = record {
+  at = 0;
+  wire = omega arith;
+  gate = let z : j ≡ k + 0 = omega (arith, h.0) in ap (λ m. Some (Input m)) z;
+}
+input_at n k (suc d) (Input j ∷ gates) h l =
+    let r : IsInputOf (n + 1) (k + 1) d gates = input_at (n + 1) (k + 1) d gates h.1 (omega arith) in
+    record {
+      at = suc r.at;
+      wire = r.wire ∙ (let z : (n + 1) + r.at ≡ n + suc r.at = omega arith in z);
+      gate = r.gate ∙ (let z : (k + 1) + d ≡ k + suc d = omega arith in ap (λ m. Some (Input m)) z);
+    }
+input_at n k d (Constant b ∷ gates) h l = beyond n k d (Constant b) gates refl (input_at (n + 1) k d gates h l)
+input_at n k d (Not x ∷ gates) h l = beyond n k d (Not x) gates refl (input_at (n + 1) k d gates h l)
+input_at n k d (And x y ∷ gates) h l = beyond n k d (And x y) gates refl (input_at (n + 1) k d gates h l)
+input_at n k d (Or x y ∷ gates) h l = beyond n k d (Or x y) gates refl (input_at (n + 1) k d gates h l)
+input_at n k d (Xor x y ∷ gates) h l = beyond n k d (Xor x y) gates refl (input_at (n + 1) k d gates h l)
+input_at n k d (Choose z x y ∷ gates) h l = beyond n k d (Choose z x y) gates refl (input_at (n + 1) k d gates h l)

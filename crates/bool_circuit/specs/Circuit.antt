@@ -30,11 +30,25 @@ values bits gates = fold (λ vs g. vs ++ gate_value bits (entry vs) g ∷ []) []
 unfoldable pub wire_value : List Gate → Wire → List Bool → Bool
 wire_value gates w bits = entry (values bits gates) w
 
+-- the wires of a list of gates that begins at wire n, that inputs drive
+abbrev pub inputs_from : ℕ → List Gate → List ℕ
+inputs_from n [] = []
+inputs_from n (Input _ ∷ gates) = n ∷ inputs_from (n + 1) gates
+inputs_from n (_ ∷ gates) = inputs_from (n + 1) gates
+
+-- the wires of a circuit that inputs drive, by their numbers
+abbrev pub input_wires : List Gate → List ℕ
+input_wires gates = inputs_from 0 gates
+
 -- the number of inputs
 abbrev pub inputs : List Gate → ℕ
-inputs [] = 0
-inputs (Input _ ∷ gates) = inputs gates + 1
-inputs (_ ∷ gates) = inputs gates
+inputs gates = length (input_wires gates)
+
+-- the inputs of the list are numbered in their order, from k on
+abbrev pub AreNumbered : ℕ → List Gate → Type 0
+AreNumbered k [] = Unit {0}
+AreNumbered k (Input j ∷ gates) = (j ≡ k) × AreNumbered (k + 1) gates
+AreNumbered k (_ ∷ gates) = AreNumbered k gates
 
 -- a gate's operands are below n, and the number of an input is below m
 abbrev pub IsGateBelow : ℕ → ℕ → Gate → Type 0
@@ -51,8 +65,10 @@ abbrev pub AreBehind : ℕ → ℕ → List Gate → Type 0
 AreBehind m n [] = Unit {0}
 AreBehind m n (g ∷ gates) = IsGateBelow m n g × AreBehind m (n + 1) gates
 
+-- what each circuit with m inputs keeps
 pub record IsCircuit (m : ℕ) (gates : List Gate) : Type 0 where
   pub input_count : inputs gates ≡ m
+  pub numbered : AreNumbered 0 gates
   pub behind : AreBehind m 0 gates
   pub few : length gates ≤ 268435456
 
@@ -69,7 +85,7 @@ IsWireOf gates w = w.number < length gates
 pub record Extends (old new : List Gate) (n : ℕ) : Type 0 where
   pub at_least : length old ≤ length new
   pub at_most : length new ≤ length old + n
-  pub same_inputs : inputs new ≡ inputs old
+  pub same_inputs : input_wires new ≡ input_wires old
   pub keeps : (w : Wire) → IsWireOf old w → (bits : List Bool) → wire_value new w bits ≡ wire_value old w bits
 
 -- ---- what a gate tells before any bits are known
