@@ -1,0 +1,15 @@
+pub mod Literals
+pub mod Trails
+pub mod Derivations
+pub mod Searches
+pub mod Arenas
+pub mod Marks
+pub mod Runs
+pub mod Teachings
+pub mod Learnings
+pub mod Explanations
+pub mod States
+pub mod Rows
+pub mod Watchings
+pub mod Changes
+pub mod Progress

@@ -1,0 +1,219 @@
+//! The analysis of a conflict: resolution back along the trail to the first unique implication point.
+ghost use Rattle.std.specs.Prelude.{ℕ, ◌≡◌, ◌≢◌, ◌+◌, ◌*◌, ◌/◌, ◌<◌, ◌≤◌, ◌^◌, [], ◌∷◌, ◌++◌, length, get_or, IfOk};
+ghost use Rattle.cdcl_search.specs.Literals.{flip, Has};
+ghost use Rattle.cdcl_search.specs.Learnings.{IsAsserting};
+ghost use Rattle.cdcl_search.specs.Trails.{IsTrail};
+ghost use Rattle.cdcl_search.specs.Marks.{ones, IsMarked, IsOneMore, Grown};
+ghost use Rattle.cdcl_search.specs.States.{IsState, IsFalse};
+ghost use Rattle.cdcl_search.specs.Explanations.{IsExplained, IsBase, AreMarksBelow};
+
+use crate::arena::Arena;
+use crate::trail::{Trail, flipped};
+use clause_store::Step;
+use std::alloc::{AllocError, Global};
+
+/// Marks at the places of the literals of the clause that is at hand, and the steps that led to it.
+#[derive(Drop)]
+pub struct Analysis {
+    pub start: u32,
+    pub marks: Vec<u8>,
+    pub lower: Vec<u32>,
+    pub steps: Vec<Step>,
+    pub counter: usize,
+}
+
+fn clear(marks: &mut Vec<u8>)
+    ensures zero { (p : ℕ) → get_or marks.new.items p 0 ≡ 0 }
+    ensures len { length marks.new.items ≡ length marks.old.items }
+{
+    for at in 0..marks.len() {
+        marks[at] = 0;
+    }
+}
+
+impl Analysis {
+    /// Marks a false literal.
+    pub fn mark(&mut self, trail: &Trail, literal: u32, base: usize) -> Result<(), AllocError>
+        requires trail { IsTrail trail.now.values.items trail.now.places.items trail.now.literals.items trail.now.count }
+        requires is_false { get_or trail.now.values.items literal 0 ≡ 2 }
+        requires marked { IsMarked trail.now.values.items trail.now.places.items base (length trail.now.literals.items) self.old.marks.items self.old.lower.items self.old.counter }
+        ensures marked { IfOk result (λ _. IsMarked trail.now.values.items trail.now.places.items base (length trail.now.literals.items) self.new.marks.items self.new.lower.items self.new.counter) }
+        ensures one { IfOk result (λ _. IsOneMore self.old.marks.items self.new.marks.items (get_or trail.now.places.items (literal / 2) 0)) }
+        ensures start { self.new.start ≡ self.old.start }
+        ensures steps { self.new.steps ≡ self.old.steps }
+        ensures counter { self.old.counter ≤ self.new.counter }
+        ensures size { length self.new.marks.items ≡ length self.old.marks.items }
+    {
+        let place = trail.places[(literal / 2) as usize] as usize;
+        if self.marks[place] != 0 {
+            return Ok(());
+        }
+        if place < base {
+            self.lower.push(literal)?;
+            self.marks[place] = 1;
+            return Ok(());
+        }
+        self.counter += 1;
+        self.marks[place] = 1;
+        Ok(())
+    }
+
+    /// Marks the literals of a clause other than `skip`, which are false.
+    pub fn mark_clause(
+        &mut self,
+        trail: &Trail,
+        clause: &[u32],
+        skip: u32,
+        base: usize,
+    ) -> Result<(), AllocError>
+        requires trail { IsTrail trail.now.values.items trail.now.places.items trail.now.literals.items trail.now.count }
+        requires are_false { (j : ℕ) → j < length clause.now → get_or clause.now j 0 ≢ skip → get_or trail.now.values.items (get_or clause.now j 0) 0 ≡ 2 }
+        requires marked { IsMarked trail.now.values.items trail.now.places.items base (length trail.now.literals.items) self.old.marks.items self.old.lower.items self.old.counter }
+        ensures marked { IfOk result (λ _. IsMarked trail.now.values.items trail.now.places.items base (length trail.now.literals.items) self.new.marks.items self.new.lower.items self.new.counter) }
+        ensures grown { IfOk result (λ _. Grown trail.now.places.items self.old.marks.items self.new.marks.items clause.now skip) }
+        ensures start { self.new.start ≡ self.old.start }
+        ensures steps { self.new.steps ≡ self.old.steps }
+        ensures counter { self.old.counter ≤ self.new.counter }
+        ensures size { length self.new.marks.items ≡ length self.old.marks.items }
+    {
+        for literal in clause {
+            if *literal != skip {
+                self.mark(trail, *literal, base)?;
+            }
+        }
+        Ok(())
+    }
+
+    /// Resolves the literal at a place with its reason.
+    pub fn resolve(
+        &mut self,
+        trail: &Trail,
+        arena: &Arena,
+        at: usize,
+        base: usize,
+    ) -> Result<(), AllocError>
+        requires state { IsState arena.now trail.now }
+        requires explained { IsExplained arena.now trail.now base self.old }
+        requires within { at < trail.now.count }
+        requires last { base ≤ at }
+        requires here { get_or self.old.marks.items at 0 ≢ 0 }
+        requires top { AreMarksBelow self.old.marks.items (at + 1) }
+        requires reasoned { get_or trail.now.reasons.items (get_or trail.now.literals.items at 0 / 2) 0 ≢ 4294967295 }
+        ensures explained { IfOk result (λ _. IsExplained arena.now trail.now base self.new) }
+        ensures top { IfOk result (λ _. AreMarksBelow self.new.marks.items at) }
+        ensures counter { IfOk result (λ _. self.old.counter ≤ self.new.counter + 1) }
+        ensures start { self.new.start ≡ self.old.start }
+        ensures size { length self.new.marks.items ≡ length self.old.marks.items }
+    {
+        let literal = trail.literals[at];
+        let reason = trail.reasons[(literal / 2) as usize];
+        self.mark_clause(trail, arena.clause(reason as usize), literal, base)?;
+        self.steps.push(Step {
+            clause: reason,
+            pivot: literal / 2,
+        })?;
+        self.marks[at] = 0;
+        self.counter -= 1;
+        Ok(())
+    }
+
+    /// Begins the explanation of a clause that is false.
+    fn begin(
+        &mut self,
+        trail: &Trail,
+        arena: &Arena,
+        conflict: u32,
+        base: usize,
+    ) -> Result<(), AllocError>
+        requires state { IsState arena.now trail.now }
+        requires conflict { conflict < length arena.now }
+        requires is_false { IsFalse trail.now (get_or arena.now conflict []) }
+        requires size { length self.old.marks.items ≡ length trail.now.literals.items }
+        ensures explained { IfOk result (λ _. IsExplained arena.now trail.now base self.new) }
+        ensures top { IfOk result (λ _. AreMarksBelow self.new.marks.items trail.now.count) }
+        ensures all { IfOk result (λ _. (l : ℕ) → Has (get_or arena.now conflict []) l → get_or self.new.marks.items (get_or trail.now.places.items (l / 2) 0) 0 ≢ 0) }
+        ensures start { self.new.start ≡ conflict }
+        ensures size { length self.new.marks.items ≡ length self.old.marks.items }
+    {
+        clear(&mut self.marks);
+        self.lower.clear();
+        self.steps.clear();
+        self.counter = 0;
+        self.start = conflict;
+        self.mark_clause(trail, arena.clause(conflict as usize), u32::MAX, base)?;
+        Ok(())
+    }
+
+    /// Explains a clause that is false, back to the first unique implication point of the last level, or, with
+    /// no level, to the empty clause.
+    pub fn explain(
+        &mut self,
+        trail: &Trail,
+        arena: &Arena,
+        conflict: u32,
+        base: usize,
+        floor: usize,
+    ) -> Result<usize, AllocError>
+        requires state { IsState arena.now trail.now }
+        requires conflict { conflict < length arena.now }
+        requires is_false { IsFalse trail.now (get_or arena.now conflict []) }
+        requires base { IsBase trail.now base floor }
+        requires size { length self.old.marks.items ≡ length trail.now.literals.items }
+        ensures explained { IfOk result (λ _. IsExplained arena.now trail.now base self.new) }
+        ensures top { IfOk result (λ top. AreMarksBelow self.new.marks.items top) }
+        ensures within { IfOk result (λ top. top ≤ trail.now.count) }
+        ensures counter { IfOk result (λ _. self.new.counter ≡ floor) }
+        ensures start { IfOk result (λ _. self.new.start ≡ conflict) }
+        ensures size { length self.new.marks.items ≡ length self.old.marks.items }
+    {
+        self.begin(trail, arena, conflict, base)?;
+        let mut top = trail.count;
+        while self.counter > floor {
+            top -= 1;
+            if self.marks[top] != 0 {
+                self.resolve(trail, arena, top, base)?;
+            }
+        }
+        Ok(top)
+    }
+
+    /// The place of the one mark that the last level keeps.
+    fn last_mark(&self, top: usize, base: usize) -> usize
+        requires top { AreMarksBelow self.now.marks.items top }
+        requires within { top ≤ length self.now.marks.items }
+        requires some { 0 < ones base self.now.marks.items }
+        ensures mark { get_or self.now.marks.items result 0 ≢ 0 }
+        ensures after { base ≤ result }
+        ensures below { result < top }
+    {
+        let mut at = top - 1;
+        while self.marks[at] == 0 {
+            at -= 1;
+        }
+        at
+    }
+
+    /// The clause that the marks stand for: the literals of the levels before, and the one of the last level.
+    pub fn clause(
+        &self,
+        alloc: Global,
+        trail: &Trail,
+        top: usize,
+        base: usize,
+    ) -> Result<(usize, Vec<u32>), AllocError>
+        requires state { IsTrail trail.now.values.items trail.now.places.items trail.now.literals.items trail.now.count }
+        requires few { 2 * length trail.now.literals.items < 2 ^ 32 }
+        requires marked { IsMarked trail.now.values.items trail.now.places.items base (length trail.now.literals.items) self.now.marks.items self.now.lower.items 1 }
+        requires top { AreMarksBelow self.now.marks.items top }
+        requires within { top ≤ trail.now.count }
+        ensures asserting { IfOk result (λ r. IsAsserting trail.now base r.0 self.now.lower.items) }
+        ensures mark { IfOk result (λ r. get_or self.now.marks.items r.0 0 ≢ 0) }
+        ensures clause { IfOk result (λ r. r.1.items ≡ self.now.lower.items ++ flip (get_or trail.now.literals.items r.0 0) ∷ []) }
+    {
+        let place = self.last_mark(top, base);
+        let mut clause = Vec::new(alloc);
+        clause.extend_from_slice(&self.lower)?;
+        clause.push(flipped(trail.literals[place]))?;
+        Ok((place, clause))
+    }
+}
