@@ -8,3 +8,4 @@ pub mod Counted
 pub mod Boundaries
 pub mod Ordered
 pub mod Ascending
+pub mod Ended

@@ -8,7 +8,7 @@ ghost use Rattle.clf_base.specs.declared.fault.Refusal.{Refusal as Refused};
 ghost use Rattle.clf_tree.specs.declared.token.Token.{Token as Item};
 ghost use Rattle.clafer_lexer.specs.Cuts.{IsLexed, IsFirstRefusal};
 ghost use Rattle.clafer_lexer.specs.Layout.{laid};
-ghost use Rattle.clafer_lexer.specs.Order.{IsInOrder};
+ghost use Rattle.clafer_lexer.specs.Order.{IsEnded, IsInOrder};
 ghost use Rattle.clafer_lexer.specs.Rows.{IsRow};
 
 /// A law: a text has at most one list of tokens, or at most one first refusal, and not both.
@@ -28,7 +28,8 @@ pub fn tokens_stand_in_order()
     ensures { (text : Seq ℕ) (tokens : Seq Item) → IsLexed text tokens → IsRow text 0 tokens }
 {}
 
-/// A law: the laid tokens of a text, marks too, stand in the order of their places.
+/// A law: the laid tokens of a text, marks too, stand in the order of their places, and the last is `End`.
 pub fn laid_tokens_stand_in_order()
-    ensures { (text : Seq ℕ) (tokens out : Seq Item) → IsLexed text tokens → laid tokens ≡ Ok out → IsInOrder out }
+    ensures order { (text : Seq ℕ) (tokens out : Seq Item) → IsLexed text tokens → laid tokens ≡ Ok out → IsInOrder out }
+    ensures ended { (text : Seq ℕ) (tokens out : Seq Item) → IsLexed text tokens → laid tokens ≡ Ok out → IsEnded out }
 {}
