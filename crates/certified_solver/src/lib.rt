@@ -7,6 +7,9 @@ ghost use Rattle.clause_store.specs.Literals.{HasVariablesBelow};
 ghost use Rattle.clause_store.specs.Resolution.{Refutes};
 ghost use Rattle.certified_solver.specs.Verdicts.{IsVerdict, IsDecided, IsRefutation};
 
+#[cfg(test)]
+mod tests;
+
 use cdcl_search::{Ended, Search};
 use clause_store::{Clauses, Derivation};
 use clf_base::{List, NoMemory};
