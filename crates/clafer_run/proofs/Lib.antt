@@ -1,0 +1,5 @@
+pub mod Answered
+pub mod Known
+pub mod Features
+pub mod Cover
+pub mod Lines

@@ -1,0 +1,40 @@
+// From words and a source to an output, all of it in memory.
+ghost use Rattle.std.specs.Prelude.{◌≡◌, ◌≤◌, map, string_bytes, IfOk, IsErrOf};
+ghost use Rattle.clf_base.specs.Causes.{Rose};
+ghost use Rattle.clafer_run.specs.Words.{ReadsSource};
+ghost use Rattle.clafer_run.specs.Run.{IsAnswer, ReadsWithinLimit};
+
+use crate::answer::{Answer, answer_to};
+use crate::input::{Stop, Text, read_text};
+use crate::words::words_of;
+use clf_base::{List, Source, Status};
+use std::alloc::Global;
+
+/// The output and the status for the words and the source's text.
+pub(crate) fn respond<S: Source>(
+    alloc: Global,
+    words: &[String],
+    source: &mut S,
+) -> Result<Answer, Stop>
+    ensures answer { IfOk result (λ answer. IsAnswer (map string_bytes words.now)
+        (S.rest source.old) (S.rest source.new) answer.output answer.status) }
+    ensures read_fault { IsErrOf result Stop.ReadFault → Rose (S.faults source.old) (S.faults source.new) }
+    ensures before_limit { IsErrOf result Stop.ReadFault → ReadsWithinLimit (S.rest source.old) (S.rest source.new) }
+    ensures readable { IsErrOf result Stop.ReadFault → ReadsSource (map string_bytes words.now) }
+    ensures unread { (ReadsSource (map string_bytes words.now) → ⊥) → source.new ≡ source.old }
+    ensures later { S.faults source.old ≤ S.faults source.new }
+{
+    let Some(request) = words_of(alloc, words)? else {
+        return Ok(Answer {
+            status: Status::BadWords,
+            output: List::from_slice(alloc, b"error words\n")?,
+        });
+    };
+    match read_text(alloc, source)? {
+        Text::TooLong => Ok(Answer {
+            status: Status::Refused,
+            output: List::from_slice(alloc, b"error E010 0:0 1048577 text too long\n")?,
+        }),
+        Text::Whole(text) => Ok(answer_to(alloc, request, text.as_slice())?),
+    }
+}

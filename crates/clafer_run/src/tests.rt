@@ -1,0 +1,238 @@
+use crate::run;
+use clf_base::{List, MemorySink, MemorySource, Source, Status, StdSink, StdSource};
+use std::alloc::{AllocError, Global};
+use std::io;
+use std::io::{ErrorKind, Read, Write};
+use std::test::Fail;
+
+fn words_of_texts(alloc: Global, texts: &[&str]) -> Result<Vec<String>, AllocError> {
+    texts
+        .iter()
+        .map(|text| text.to_string(alloc))
+        .try_collect(alloc)
+}
+
+// Words, a text, and the status and the bytes that are wanted.
+#[derive(Drop)]
+struct Case {
+    words: &'static [&'static str],
+    text: &'static [u8],
+    status: Status,
+    output: &'static [u8],
+}
+
+const CASES: [Case; 10] = [
+    // the empty text has the empty instance
+    Case {
+        words: &["one"],
+        text: b"",
+        status: Status::Done,
+        output: b"scopes 0\nints -2048..2047\ninstance\n",
+    },
+    // an option implies another
+    Case {
+        words: &["one"],
+        text: b"a\n    b ?\n    c ?\n    [ b => c ]\n    [ b ]\n",
+        status: Status::Done,
+        output: b"scopes 3\na 1\na.b 1\na.c 1\nints -2048..2047\ninstance\na$0\n  b$0\n  c$0\n",
+    },
+    // contradicting constraints
+    Case {
+        words: &["one"],
+        text: b"a\n    b ?\n    [ b ]\n    [ !b ]\n",
+        status: Status::NoInstance,
+        output: b"scopes 2\na 1\na.b 1\nints -2048..2047\nno instance\n",
+    },
+    // a feature below a missing one is missing, whether it is optional or not
+    Case {
+        words: &["one"],
+        text: b"a\n    b ?\n        c\n        [ !c ]\n",
+        status: Status::Done,
+        output: b"scopes 3\na 1\na.b 1\na.b.c 1\nints -2048..2047\ninstance\na$0\n",
+    },
+    // `&&` binds tighter than `||`, and `||` tighter than `=>`, which goes to the right
+    Case {
+        words: &["one"],
+        text: b"a\n    b ?\n    c ?\n    [ b || c && !b => b => c ]\n    [ b ]\n",
+        status: Status::Done,
+        output: b"scopes 3\na 1\na.b 1\na.c 1\nints -2048..2047\ninstance\na$0\n  b$0\n  c$0\n",
+    },
+    Case {
+        words: &["one", "two"],
+        text: b"a\n",
+        status: Status::BadWords,
+        output: b"error words\n",
+    },
+    Case {
+        words: &[],
+        text: b"a\n",
+        status: Status::BadWords,
+        output: b"error words\n",
+    },
+    // two names on a line
+    Case {
+        words: &["one"],
+        text: b"a b\n",
+        status: Status::Refused,
+        output: b"error E040 0:0 0 unexpected token\n",
+    },
+    // a name that stands under another feature
+    Case {
+        words: &["one"],
+        text: b"a\n    b ?\n        c ?\n    [ c ]\n",
+        status: Status::Refused,
+        output: b"error E040 0:0 0 unexpected token\n",
+    },
+    // seventeen optional features
+    Case {
+        words: &["one"],
+        text: b"a\n    b ?\n    c ?\n    d ?\n    e ?\n    f ?\n    g ?\n    h ?\n    i ?\n    j ?\n    k ?\n    l ?\n    m ?\n    n ?\n    o ?\n    p ?\n    q ?\n    r ?\n",
+        status: Status::Refused,
+        output: b"error E095 0:0 17 too many optional clafers\n",
+    },
+];
+
+#[test]
+fn answers_with_ample_memory(rt: HostRuntime) -> Result<(), Fail> {
+    let alloc = rt.alloc();
+    for case in &CASES {
+        let words = words_of_texts(alloc, case.words)?;
+        let mut source = MemorySource::new(
+            List::from_slice(alloc, case.text)?,
+            3,
+            List::new(alloc),
+        );
+        let mut sink = MemorySink::new(alloc, 256, 5, List::new(alloc))?;
+        let status = run(alloc, &words, &mut source, &mut sink);
+        assert_eq!(rt; status, case.status);
+        assert_eq!(rt; sink.bytes(), case.output);
+    }
+    Ok(())
+}
+
+#[test]
+fn words_without_a_reading_leave_the_source(rt: HostRuntime) -> Result<(), Fail> {
+    let alloc = rt.alloc();
+    let words = words_of_texts(alloc, &["one", "two"])?;
+    let mut source = MemorySource::new(List::from_slice(alloc, b"a\n")?, 8, List::new(alloc));
+    let mut sink = MemorySink::new(alloc, 64, 64, List::new(alloc))?;
+    let status = run(alloc, &words, &mut source, &mut sink);
+    assert_eq!(rt; status, Status::BadWords);
+    let mut out = [0; 8];
+    let count = source.read(&mut out)?;
+    assert_eq!(rt; &out[..count.min(8)], b"a\n".as_slice());
+    Ok(())
+}
+
+#[test]
+fn a_read_fault_writes_nothing(rt: HostRuntime) -> Result<(), Fail> {
+    let alloc = rt.alloc();
+    let words = words_of_texts(alloc, &["one"])?;
+    let failing = List::from_slice(alloc, &[1])?;
+    let mut source = MemorySource::new(List::from_slice(alloc, b"a\n    b ?\n")?, 8, failing);
+    let mut sink = MemorySink::new(alloc, 64, 64, List::new(alloc))?;
+    let status = run(alloc, &words, &mut source, &mut sink);
+    assert_eq!(rt; status, Status::ReadFault);
+    assert_eq!(rt; sink.bytes(), b"".as_slice());
+    Ok(())
+}
+
+#[test]
+fn a_write_fault_leaves_a_prefix(rt: HostRuntime) -> Result<(), Fail> {
+    let alloc = rt.alloc();
+    let words = words_of_texts(alloc, &["one"])?;
+    let mut source = MemorySource::new(List::new(alloc), 8, List::new(alloc));
+    let failing = List::from_slice(alloc, &[1])?;
+    let mut sink = MemorySink::new(alloc, 64, 7, failing)?;
+    let status = run(alloc, &words, &mut source, &mut sink);
+    assert_eq!(rt; status, Status::WriteFault);
+    assert_eq!(rt; sink.bytes(), b"scopes ".as_slice());
+    Ok(())
+}
+
+// A text of this many line ends: the limit is tried from both sides.
+#[test]
+fn one_byte_too_many_is_refused(rt: HostRuntime) -> Result<(), Fail> {
+    let alloc = rt.alloc();
+    let words = words_of_texts(alloc, &["one"])?;
+    let most: usize = 1_048_576;
+    for (length, output) in [
+        (most, b"error E040 0:0 0 unexpected token\n".as_slice()),
+        (
+            most + 1,
+            b"error E010 0:0 1048577 text too long\n".as_slice(),
+        ),
+    ] {
+        let text = vec![in alloc; b' '; length]?;
+        let mut source = MemorySource::new(List::from_slice(alloc, &text)?, 5000, List::new(alloc));
+        let mut sink = MemorySink::new(alloc, 64, 64, List::new(alloc))?;
+        let status = run(alloc, &words, &mut source, &mut sink);
+        assert_eq!(rt; sink.bytes(), output, "at {length}");
+        assert_eq!(rt; status.number(), 2);
+    }
+    Ok(())
+}
+
+// A reader and a writer whose every call fails, or that takes nothing.
+#[derive(Drop)]
+struct Broken {
+    takes_nothing: bool,
+}
+
+impl Read for Broken {
+    fn read(&mut self, _buf: &mut [u8]) -> io::Result<usize> {
+        Err(io::Error::from(ErrorKind::PermissionDenied))
+    }
+}
+
+impl Write for Broken {
+    fn write(&mut self, _buf: &[u8]) -> io::Result<usize> {
+        if self.takes_nothing {
+            Ok(0)
+        } else {
+            Err(io::Error::from(ErrorKind::PermissionDenied))
+        }
+    }
+
+    fn flush(&mut self) -> io::Result<()> {
+        Ok(())
+    }
+}
+
+#[test]
+fn readers_and_writers_of_std_serve(rt: HostRuntime) -> Result<(), Fail> {
+    let alloc = rt.alloc();
+    let words = words_of_texts(alloc, &["one"])?;
+    let mut written = Vec::new(alloc);
+    let mut source = StdSource::new(b"a\n".as_slice());
+    let mut sink = StdSink::new(&mut written);
+    let status = run(alloc, &words, &mut source, &mut sink);
+    assert_eq!(rt; status, Status::Done);
+    assert_eq!(rt;
+        written.as_slice(),
+        b"scopes 1\na 1\nints -2048..2047\ninstance\na$0\n".as_slice()
+    );
+    Ok(())
+}
+
+#[test]
+fn faults_of_std_are_told(rt: HostRuntime) -> Result<(), Fail> {
+    let alloc = rt.alloc();
+    let words = words_of_texts(alloc, &["one"])?;
+    let mut sink = StdSink::new(Broken {
+        takes_nothing: true,
+    });
+    let mut broken = StdSource::new(Broken {
+        takes_nothing: false,
+    });
+    assert_eq!(rt;
+        run(alloc, &words, &mut broken, &mut sink),
+        Status::ReadFault
+    );
+    let mut source = StdSource::new(b"a\n".as_slice());
+    assert_eq!(rt;
+        run(alloc, &words, &mut source, &mut sink),
+        Status::WriteFault
+    );
+    Ok(())
+}
