@@ -2,7 +2,7 @@ ghost use Rattle.std.specs.Prelude.{◌≡◌, ◌≤◌, ◌&&◌, nat_lt, sum,
 ghost use Rattle.std.specs.List.{list_all};
 ghost use Rattle.std.specs.Option.{option_to_list};
 ghost use Rattle.clf_tree.specs.Hierarchy.{is_concrete};
-ghost use Rattle.clf_tree.specs.Nodes.{is_within, named_by, scope_of};
+ghost use Rattle.clf_tree.specs.Nodes.{is_before, is_within, named_by, scope_of};
 
 use crate::Tables;
 use clf_base::{List, Span};
@@ -82,12 +82,24 @@ fn is_within(model: &Model, scopes: &Scopes, instance: &Instance) -> bool
         .all(|entry| names_inside(model, scopes, entry))
 }
 
+fn is_before(m: Node, n: Node) -> bool
+    ensures { result ≡ is_before m n }
+{
+    m.clafer < n.clafer || (m.clafer == n.clafer && m.number < n.number)
+}
+
+fn comes_last(instance: &Instance, node: Node) -> bool
+    ensures { result ≡ list_all (λ e. is_before e.node node) instance.now.entries }
+{
+    instance
+        .entries
+        .as_slice()
+        .iter()
+        .all(|entry| is_before(entry.node, node))
+}
+
 fn add(instance: &mut Instance, node: Node, parent: Option<Node>) -> Result<(), Fail> {
-    let before = instance.entries.as_slice().iter().all(|entry| {
-        entry.node.clafer < node.clafer
-            || (entry.node.clafer == node.clafer && entry.node.number < node.number)
-    });
-    if before {
+    if comes_last(instance, node) {
         instance.add(Entry {
             node,
             parent,
