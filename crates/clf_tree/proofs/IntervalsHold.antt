@@ -3,26 +3,24 @@ use Rattle.std.proofs.Common.{◌≡◌, ℕ, ◌<◌, Bool, true, false, not, �
 use Rattle.std.specs.Prelude.{◌==◌, slice_get, is_some}
 use Rattle.std.specs.Option.{option_and_then, option_map_or}
 use Rattle.std.specs.List.{list_all}
-use Rattle.std.proofs.lemmas.Grind.{common_steps}
 use Rattle.std.proofs.lemmas.Bool.{true≢false}
 use Rattle.std.proofs.lemmas.Option.{slice_get_within}
 use Rattle.clf_tree.specs.declared.model.Clafer.{Clafer}
 use Rattle.clf_tree.specs.declared.instance.Node.{Node}
 use Rattle.clf_tree.specs.declared.instance.Entry.{Entry}
-use Rattle.clf_tree.specs.Lists.{from_end, numbers_below, each_two}
-use Rattle.clf_tree.specs.Hierarchy.{is_closed, is_a, is_one_of, own_reference}
-use Rattle.clf_tree.specs.Nodes.{same_node, has_node, nodes_of}
+use Rattle.clf_tree.specs.Lists.{numbers_below, each_two}
+use Rattle.clf_tree.specs.Hierarchy.{is_closed, is_a, own_reference}
+use Rattle.clf_tree.specs.Nodes.{same_node, nodes_of, is_ordered, is_within, is_tree}
+use Rattle.clf_tree.specs.Meaning.{Situation}
+use Rattle.clf_tree.specs.declared.scopes.Scopes.{Scopes}
 use Rattle.clf_tree.specs.Shape.{has_shape, meets_times, meets_group, meets_reference, differ}
-use Rattle.clf_tree.specs.IntervalsHold.{refers_once, StandsFor, IntervalsHold}
+use Rattle.clf_tree.specs.IntervalsHold.{refers_once, StandsFor, IsSituation, IntervalsHold}
 use Rattle.clf_tree.proofs.Items.{In, found, all_in, and_left, and_right, in_range, image}
 use Rattle.clf_tree.proofs.IsALaw.{is_a_from_closure}
 use Rattle.clf_tree.proofs.SingleReference.{IsSingle}
 use Rattle.clf_tree.proofs.Counts.{Belongs, same_equal}
-use Rattle.clf_tree.proofs.SetsOfNodes.{IsSound}
+use Rattle.clf_tree.proofs.SetsOfNodes.{IsSound, IsPlace}
 use Rattle.clf_tree.proofs.IntervalLaw.{interval_law}
-
-truth : (b : Bool) → IsTrue b → b ≡ true
-truth b h = grind (arith, common_steps)
 
 own_below : (clafers : List Clafer) (c : ℕ) (k : Option Clafer) → slice_get clafers c ≡ k → is_some (option_and_then (λ (x : Clafer). x.reference) k) ≡ true → c < length clafers
 own_below clafers c None e h = absurd (true≢false (sym h))
@@ -51,30 +49,36 @@ single clafers closed once z y up a b =
 
 belongs : (clafers : List Clafer) (entries : List Entry) (ks : List ℕ) (n : Node) → StandsFor clafers entries ks n → Belongs clafers entries ks n
 belongs clafers entries ks n s =
-    let f = found (same_node n) (nodes_of entries) (truth (has_node (nodes_of entries) n) s.0) in
+    let f = found (same_node n) (nodes_of entries) s.0 in
     let im = image (λ (x : Entry). x.node) entries f.item f.in_list in
-    record { entry = im.item; there = im.in_list; same = im.same ∙ sym (same_equal n f.item f.pass); is_one = truth (is_one_of clafers ks n.clafer) s.1 }
+    record { entry = im.item; there = im.in_list; same = im.same ∙ sym (same_equal n f.item f.pass); is_one = s.1 }
+
+references : (clafers : List Clafer) (scopes : Scopes) (entries : List Entry) → has_shape clafers scopes entries ≡ true → list_all (meets_reference clafers entries scopes) entries ≡ true
+references clafers scopes entries h =
+    let first = and_left (list_all (λ c. option_map_or (λ k. meets_times clafers entries c k && meets_group clafers entries c k) (slice_get clafers c) true) (numbers_below (length clafers)) && list_all (meets_reference clafers entries scopes) entries) (each_two (differ clafers entries) entries) h in
+    and_right (list_all (λ c. option_map_or (λ k. meets_times clafers entries c k && meets_group clafers entries c k) (slice_get clafers c) true) (numbers_below (length clafers))) (list_all (meets_reference clafers entries scopes) entries) first
+
+pub sound_of : (clafers : List Clafer) (scopes : Scopes) (entries : List Entry)
+    → IsTrue (is_closed clafers) → IsTrue (refers_once clafers)
+    → IsTrue (is_ordered entries) → IsTrue (is_within clafers scopes entries) → IsTrue (is_tree clafers entries) → IsTrue (has_shape clafers scopes entries)
+    → IsSound clafers scopes entries
+sound_of clafers scopes entries closed once ordered within tree shape = record {
+  closed = closed;
+  single = single clafers closed once;
+  ordered = ordered;
+  within = within;
+  tree = tree;
+  references = references clafers scopes entries shape;
+}
+
+pub place_of : (clafers : List Clafer) (entries : List Entry) (s : Situation) → IsSituation clafers entries s → IsPlace clafers entries s
+place_of clafers entries s place = record {
+  this_node = λ c e. let f = place.this_is c e in (f.0, f.1, belongs clafers entries (c ∷ []) f.0 f.2);
+  variable = λ i ks e. let f = place.variable_is i ks e in (f.0, f.1, belongs clafers entries ks f.0 f.2);
+}
 
 pub intervals_hold : IntervalsHold
 intervals_hold clafers scopes entries t s closed once ordered within tree shape place typed fits narrow =
-    let sound : IsSound clafers scopes entries = record {
-      closed = truth (is_closed clafers) closed;
-      single = single clafers (truth (is_closed clafers) closed) (truth (refers_once clafers) once);
-      ordered = truth _ ordered;
-      within = truth _ within;
-      tree = truth _ tree;
-      references = references (truth (has_shape clafers scopes entries) shape);
-    } in
-    let l = interval_law clafers scopes entries sound t s (record { this_node = this_node; variable = variable }) (truth _ typed) (truth _ fits) (truth _ narrow) in
+    let sound = sound_of clafers scopes entries closed once ordered within tree shape in
+    let l = interval_law clafers scopes entries sound t s (place_of clafers entries s place) typed fits narrow in
     record { least = l.least; most = l.most }
-  where
-    references : has_shape clafers scopes entries ≡ true → list_all (meets_reference clafers entries scopes) entries ≡ true
-    references h =
-        let first = and_left (list_all (λ c. option_map_or (λ k. meets_times clafers entries c k && meets_group clafers entries c k) (slice_get clafers c) true) (numbers_below (length clafers)) && list_all (meets_reference clafers entries scopes) entries) (each_two (differ clafers entries) entries) h in
-        and_right (list_all (λ c. option_map_or (λ k. meets_times clafers entries c k && meets_group clafers entries c k) (slice_get clafers c) true) (numbers_below (length clafers))) (list_all (meets_reference clafers entries scopes) entries) first
-
-    this_node : (c : ℕ) → s.within.this ≡ Some c → (n : Node) × (s.this ≡ Some n) × (Belongs clafers entries (c ∷ []) n)
-    this_node c e = let f = place.this_is c e in (f.0, f.1, belongs clafers entries (c ∷ []) f.0 f.2)
-
-    variable : (i : ℕ) (ks : List ℕ) → from_end s.within.bound i ≡ Some ks → (n : Node) × (from_end s.bound i ≡ Some n) × (Belongs clafers entries ks n)
-    variable i ks e = let f = place.variable_is i ks e in (f.0, f.1, belongs clafers entries ks f.0 f.2)

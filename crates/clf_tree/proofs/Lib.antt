@@ -6,6 +6,8 @@ pub mod IntervalLaw
 pub mod IntervalsHold
 pub mod IsALaw
 pub mod Items
+pub mod KindsHold
+pub mod Marks
 pub mod Numbers
 pub mod Ordered
 pub mod Rows

@@ -3,7 +3,9 @@ pub mod Hierarchy
 pub mod Intervals
 pub mod IntervalsHold
 pub mod Kinds
+pub mod KindsHold
 pub mod Lists
+pub mod Marks
 pub mod Meaning
 pub mod Nodes
 pub mod Numerics

@@ -22,7 +22,7 @@ mod tests;
 mod token;
 mod vector;
 
-pub use bounds::{Bounds, intervals_hold};
+pub use bounds::{Bounds, intervals_hold, kinds_hold};
 pub use expr::{Expr, Form};
 pub use hierarchy::{is_a, is_a_is_closure, owners};
 pub use instance::{Entry, Instance, Node, Target};

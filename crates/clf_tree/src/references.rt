@@ -1,8 +1,10 @@
 //! What clafers refer to, and what stands above them.
 
-ghost use Rattle.std.specs.Prelude.{◌≡◌, ◌&&◌, ◌<◌, ◌^◌, ◌++◌, length, IfOk, IsTrue};
+ghost use Rattle.std.specs.Prelude.{◌≡◌, ◌&&◌, ◌<◌, ◌^◌, ◌++◌, [], ◌∷◌, ℕ, List as Seq, length, vec_len, IfOk, IsTrue};
 ghost use Rattle.clf_tree.specs.Hierarchy.{is_closed, own_reference, super_of, reference_of, refers_to_int, target_of, refer_to_int, targets_of, is_one_of, share};
-ghost use Rattle.clf_tree.specs.Kinds.{is_child, has_child_in, parents_of};
+ghost use Rattle.clf_tree.specs.Lists.{numbers_below};
+ghost use Rattle.clf_tree.specs.Kinds.{parents_of};
+ghost use Rattle.clf_tree.specs.Marks.{MarksParents};
 
 use crate::hierarchy::is_a;
 use crate::model::{Clafer, Reference};
@@ -96,32 +98,40 @@ pub fn is_one_of(clafers: &List<Clafer>, ks: &List<u32>, clafer: u32) -> bool
     ks.as_slice().iter().any(|k| is_a(clafers, clafer, *k))
 }
 
-fn is_child(clafers: &List<Clafer>, p: u32, c: u32) -> bool
-    requires { c < length clafers.now }
-    ensures { result ≡ is_child clafers.now p c }
-{
-    match clafers.get(c as usize).parent {
-        Some(parent) => parent == p,
-        None => false,
-    }
-}
-
-#[tactic(auto, using(crate::proofs::Numbers::child_steps))]
-fn has_child_in(clafers: &List<Clafer>, ks: &List<u32>, p: u32) -> bool
+/// Marks the clafer under which `c` is declared, where `c` is-a one of the given ones.
+#[tactic(auto, using(crate::proofs::Marks::mark_steps))]
+fn mark_parent(clafers: &List<Clafer>, ks: &List<u32>, c: u32, marks: &mut Vec<bool>)
+    requires within { c < length clafers.now }
     requires closed { IsTrue (is_closed clafers.now) }
-    requires few { length clafers.now < 2 ^ 32 }
-    ensures { result ≡ has_child_in clafers.now ks.now p }
+    requires sized { vec_len marks.old ≡ length clafers.now }
+    ensures sized { vec_len marks.new ≡ length clafers.now }
+    ensures marked { (cs : Seq ℕ) → MarksParents clafers.now ks.now cs marks.old.items → MarksParents clafers.now ks.now (cs ++ c ∷ []) marks.new.items }
 {
-    for c in 0..clafers.len() {
-        if is_child(clafers, p, c as u32) && is_one_of(clafers, ks, c as u32) {
-            return true;
+    if is_one_of(clafers, ks, c) {
+        if let Some(parent) = clafers.get(c as usize).parent {
+            marks[parent as usize] = true;
         }
     }
-    false
 }
 
-/// The declaring parents of the nested clafers that are-a one of the given ones, in the order of the model. For each clafer it
-/// goes over all clafers.
+fn parent_marks(
+    alloc: Global,
+    clafers: &List<Clafer>,
+    ks: &List<u32>,
+) -> Result<Vec<bool>, NoMemory>
+    requires closed { IsTrue (is_closed clafers.now) }
+    requires few { length clafers.now < 2 ^ 32 }
+    ensures { IfOk result (λ marks. (vec_len marks ≡ length clafers.now) × MarksParents clafers.now ks.now (numbers_below (length clafers.now)) marks.items) }
+{
+    let mut marks = vec![in alloc; false; clafers.len()]?;
+    for c in 0..clafers.len() {
+        mark_parent(clafers, ks, c as u32, &mut marks);
+    }
+    Ok(marks)
+}
+
+/// The declaring parents of the nested clafers that are-a one of the given ones, in the order of the model. It goes over the
+/// clafers twice.
 #[tactic(auto, using(crate::proofs::Numbers::child_steps))]
 pub fn parents_of(
     alloc: Global,
@@ -132,9 +142,10 @@ pub fn parents_of(
     requires few { length clafers.now < 2 ^ 32 }
     ensures { IfOk result (λ ps. ps ≡ parents_of clafers.now ks.now) }
 {
+    let marks = parent_marks(alloc, clafers, ks)?;
     let mut parents = List::new(alloc);
     for p in 0..clafers.len() {
-        if has_child_in(clafers, ks, p as u32) {
+        if marks[p] {
             parents.push(p as u32)?;
         }
     }

@@ -1,9 +1,0 @@
-use Rattle.std.proofs.Common.{◌≡◌, ◌&&◌, false}
-use Rattle.std.specs.List.{list_any}
-use Rattle.clf_tree.specs.Lists.{numbers_below}
-use Rattle.clf_tree.specs.Hierarchy.{is_one_of}
-use Rattle.clf_tree.specs.Kinds.{is_child}
-use Rattle.clf_tree.proofs.references.has_child_in.Given as goal
-
-abbrev pub invariant-loop-c : goal.invariant-loop-c
-invariant-loop-c l = list_any (λ d. is_child l.clafers l.p d && is_one_of l.clafers l.ks d) (numbers_below l.c) ≡ false
