@@ -8,6 +8,7 @@ pub mod IsALaw
 pub mod Items
 pub mod KindsHold
 pub mod Marks
+pub mod NamedRows
 pub mod Numbers
 pub mod Ordered
 pub mod Rows

@@ -7,6 +7,7 @@ pub mod KindsHold
 pub mod Lists
 pub mod Marks
 pub mod Meaning
+pub mod Named
 pub mod Nodes
 pub mod Numerics
 pub mod Renaming
