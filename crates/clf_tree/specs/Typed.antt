@@ -1,13 +1,17 @@
 -- Whether each expression has a kind and each operand fits its position.
-use Rattle.std.specs.Prelude.{◌&&◌, Bool, true, false, List, length, Option, Some, None, is_some}
+use Rattle.std.specs.Prelude.{◌&&◌, Bool, true, false, List, [], length, Option, Some, None, is_some, IsTrue}
+use Rattle.std.specs.List.{list_all}
 use Rattle.clf_tree.specs.declared.model.Clafer.{Clafer}
+use Rattle.clf_tree.specs.declared.model.Rule.{Rule}
+use Rattle.clf_tree.specs.declared.model.Goal.{Goal}
+use Rattle.clf_tree.specs.declared.model.Model.{Model}
 use Rattle.clf_tree.specs.declared.kind.Within.{Within}
 use Rattle.clf_tree.specs.declared.kind.Kind.{Kind}
 use Rattle.clf_tree.specs.declared.kind.Kind.TheVariants as kinds
 use Rattle.clf_tree.specs.declared.kind.Reading.{Reading}
 use Rattle.clf_tree.specs.declared.kind.Reading.TheVariants.{ByValues, ByNodes}
 use Rattle.clf_tree.specs.Tree as e
-use Rattle.clf_tree.specs.Tree.{Tree}
+use Rattle.clf_tree.specs.Tree.{Tree, tree}
 use Rattle.clf_tree.specs.Hierarchy.{share, refer_to_int}
 use Rattle.clf_tree.specs.Kinds.{kind, clafers_of, bind_kinds, reading_of}
 
@@ -96,3 +100,19 @@ module _ (clafers : List Clafer) where
   is_typed (e.Quant _ word disj names over body) w =
       let inner = bind_kinds (clafers_of (kind clafers over w)) (length names) w in
       is_typed over w && fits_nodes (kind clafers over w) && is_typed body inner && fits_truth (kind clafers body inner)
+
+  -- a rule is in truth position, a goal in integer position
+  abbrev pub rule_is_typed : Rule → Bool
+  rule_is_typed r =
+      let w : Within = record { this = r.context; bound = [] } in
+      is_typed (tree r.body) w && fits_truth (kind clafers (tree r.body) w)
+
+  abbrev pub goal_is_typed : Goal → Bool
+  goal_is_typed g =
+      let w : Within = record { this = None; bound = [] } in
+      is_typed (tree g.body) w && fits_number (kind clafers (tree g.body) w)
+
+-- what `Typed` keeps of a model, beside what `Named` keeps
+pub record IsTyped (model : Model) : Type 0 where
+  pub rules : IsTrue (list_all (rule_is_typed model.clafers) model.rules)
+  pub goals : IsTrue (list_all (goal_is_typed model.clafers) model.goals)

@@ -21,6 +21,7 @@ mod spelling;
 #[cfg(test)]
 mod tests;
 mod token;
+mod typed;
 mod vector;
 
 pub use bounds::{Bounds, intervals_hold, kinds_hold};
@@ -38,4 +39,5 @@ pub use references::{is_one_of, parents_of, refer_to_int, reference_of, share, t
 pub use scopes::{Given, GivenScope, Scopes};
 pub use spelling::{SIGNS, WORDS, sign_of, word_of};
 pub use token::{Sign, Title, Token, TokenKind, Word, copy_titles};
+pub use typed::Typed;
 pub use vector::{Front, FrontEnd, Point, Question, Vector, Ways};
