@@ -1,11 +1,11 @@
 -- When the clafers and the widths of a relational expression hold its values.
-use Rattle.std.specs.Prelude.{ℕ, ◌^◌, ◌-◌, ◌<◌, ◌&&◌, Bool, true, false, not, List, [], ◌∷◌, ◌++◌, length, replicate, ℤ, pos, neg_ℤ, IsTrue, int_le, int_lt, nat_lt, nat_le}
+use Rattle.std.specs.Prelude.{ℕ, ◌^◌, ◌-◌, ◌<◌, ◌&&◌, Bool, true, false, not, List, [], ◌++◌, length, replicate, ℤ, pos, neg_ℤ, IsTrue, int_le, int_lt, nat_lt, nat_le}
 use Rattle.std.specs.List.{list_all}
 use Rattle.clf_tree.specs.declared.model.Clafer.{Clafer}
 use Rattle.clf_tree.specs.declared.instance.Node.{Node}
 use Rattle.clf_tree.specs.declared.instance.Entry.{Entry}
 use Rattle.clf_tree.specs.declared.scopes.Scopes.{Scopes}
-use Rattle.clf_tree.specs.Lists.{has, each_two}
+use Rattle.clf_tree.specs.Lists.{has, each_two, each_pair}
 use Rattle.clf_tree.specs.Hierarchy.{is_concrete}
 use Rattle.clf_tree.specs.Nodes.{has_node, nodes_of, is_ordered, is_within, is_tree}
 use Rattle.clf_tree.specs.Shape.{has_shape}
@@ -65,11 +65,12 @@ holds_value (Nodes ks) v = list_all (λ n. has ks n.clafer) (nodes v)
 holds_value (Number w) v = holds_integer w (integer_in v)
 holds_value Truth v = true
 
--- each bound node is an entry of one of the clafers given for it
+-- whether a node is an entry of one of the clafers, and whether each bound node is one of those given for it
+abbrev pub is_entry_of : List Entry → List ℕ → Node → Bool
+is_entry_of entries ks n = has ks n.clafer && has_node (nodes_of entries) n
+
 abbrev pub are_entries : List Entry → List (List ℕ) → List Node → Bool
-are_entries entries [] [] = true
-are_entries entries (ks ∷ given) (n ∷ bound) = has ks n.clafer && has_node (nodes_of entries) n && are_entries entries given bound
-are_entries entries _ _ = false
+are_entries entries given bound = each_pair (is_entry_of entries) given bound
 
 module _ (clafers : List Clafer) (scopes : Scopes) where
   -- within the scopes, a tree, of the right shape
