@@ -26,7 +26,8 @@ own_below : (clafers : List Clafer) (c : ℕ) (k : Option Clafer) → slice_get 
 own_below clafers c None e h = absurd (true≢false (sym h))
 own_below clafers c (Some k) e h = slice_get_within clafers c k e
 
-single : (clafers : List Clafer) → is_closed clafers ≡ true → refers_once clafers ≡ true → IsSingle clafers
+-- the test of it
+pub single : (clafers : List Clafer) → is_closed clafers ≡ true → refers_once clafers ≡ true → IsSingle clafers
 single clafers closed once z y up a b =
     let test : ℕ → ℕ → Bool = λ p q. not (is_a clafers p q && is_some (own_reference clafers p) && is_some (own_reference clafers q)) || (p == q) in
     let zs = own_below clafers z (slice_get clafers z) refl a in

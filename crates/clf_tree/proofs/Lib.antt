@@ -1,3 +1,4 @@
+pub mod CoreExamples
 pub mod Counts
 pub mod FirstReference
 pub mod Found

@@ -1,3 +1,7 @@
+pub mod Core
+pub mod CoreMeaning
+pub mod CoreSoundness
+pub mod CoreWeights
 pub mod Front
 pub mod Hierarchy
 pub mod Intervals

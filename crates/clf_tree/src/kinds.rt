@@ -33,7 +33,8 @@ fn joined(mut ks: List<u32>, ls: &List<u32>) -> Result<List<u32>, NoMemory>
     Ok(ks)
 }
 
-fn this_kind(alloc: Global, this: Option<u32>) -> Result<Option<Kind>, NoMemory>
+/// The kind of `this` and of the instances of a clafer: the one clafer, if there is one.
+pub fn this_kind(alloc: Global, this: Option<u32>) -> Result<Option<Kind>, NoMemory>
     ensures { IfOk result (λ k. k ≡ option_map (λ c. Nodes (c ∷ [])) this) }
 {
     match this {
@@ -42,7 +43,12 @@ fn this_kind(alloc: Global, this: Option<u32>) -> Result<Option<Kind>, NoMemory>
     }
 }
 
-fn variable_kind(alloc: Global, within: &Within, variable: u32) -> Result<Option<Kind>, NoMemory>
+/// The kind of a variable, counted from the innermost, if so many are bound. It copies the clafers.
+pub fn variable_kind(
+    alloc: Global,
+    within: &Within,
+    variable: u32,
+) -> Result<Option<Kind>, NoMemory>
     ensures { IfOk result (λ k. k ≡ option_map (λ ks. Nodes ks) (from_end within.now.bound variable)) }
 {
     match within.bound.as_slice().iter().rev().nth(variable as usize) {
@@ -51,7 +57,8 @@ fn variable_kind(alloc: Global, within: &Within, variable: u32) -> Result<Option
     }
 }
 
-fn no_clafers(alloc: Global, kind: Option<Kind>) -> List<u32>
+/// The clafers of a kind; other kinds than `Nodes` have none.
+pub fn clafers_of(alloc: Global, kind: Option<Kind>) -> List<u32>
     ensures { result ≡ clafers_of kind }
 {
     match kind {
@@ -60,7 +67,8 @@ fn no_clafers(alloc: Global, kind: Option<Kind>) -> List<u32>
     }
 }
 
-fn parent_kind(parents: List<u32>) -> Option<Kind>
+/// The kind of `parent` with the given declaring parents; None where there are none.
+pub fn parent_kind(parents: List<u32>) -> Option<Kind>
     ensures { result ≡ parent_kind parents }
 {
     if parents.len() == 0 {
@@ -70,7 +78,8 @@ fn parent_kind(parents: List<u32>) -> Option<Kind>
     }
 }
 
-fn dref_kind(
+/// The kind of `dref`: the integers of nodes that all refer to integers, or the clafers that they all refer to; None for others.
+pub fn dref_kind(
     alloc: Global,
     clafers: &List<Clafer>,
     kind: Option<Kind>,
@@ -91,7 +100,8 @@ fn dref_kind(
     }
 }
 
-fn union_kind(a: Option<Kind>, b: Option<Kind>) -> Result<Option<Kind>, NoMemory>
+/// The kind of a union, of the clafers of both sides; None where a side is no set of nodes. It moves the left list.
+pub fn union_kind(a: Option<Kind>, b: Option<Kind>) -> Result<Option<Kind>, NoMemory>
     ensures { IfOk result (λ k. k ≡ union_kind a b) }
 {
     match a {
@@ -103,7 +113,8 @@ fn union_kind(a: Option<Kind>, b: Option<Kind>) -> Result<Option<Kind>, NoMemory
     }
 }
 
-fn left_kind(clafers: &List<Clafer>, a: Option<Kind>, b: Option<Kind>) -> Option<Kind>
+/// The kind of `--` and `**`: that of the left side, where some clafer can be on both sides. It goes over the clafers.
+pub fn left_kind(clafers: &List<Clafer>, a: Option<Kind>, b: Option<Kind>) -> Option<Kind>
     requires closed { IsTrue (is_closed clafers.now) }
     requires few { length clafers.now < 2 ^ 32 }
     ensures { result ≡ left_kind clafers.now a b }
@@ -183,7 +194,9 @@ fn number_branch(b: Kind) -> Kind
     }
 }
 
-fn if_kind(a: Option<Kind>, b: Option<Kind>) -> Result<Option<Kind>, NoMemory>
+/// The kind of a choice by the kinds of its branches: a truth value where one is, else an integer where one is a number, else the
+/// nodes of both.
+pub fn if_kind(a: Option<Kind>, b: Option<Kind>) -> Result<Option<Kind>, NoMemory>
     ensures { IfOk result (λ k. k ≡ option_and_then (λ x. option_map (branch_kind x) b) a) }
 {
     match a {
@@ -222,7 +235,7 @@ pub fn kind_of(
         Form::Name(_) | Form::Join(_, _) => Ok(None),
         Form::Step { into, .. } => Ok(Some(Kind::Nodes(into.copy(alloc)?))),
         Form::Parent(a) => {
-            let below = no_clafers(alloc, kind_of(alloc, model, within, a.get())?);
+            let below = clafers_of(alloc, kind_of(alloc, model, within, a.get())?);
             Ok(parent_kind(parents_of(alloc, &model.clafers, &below)?))
         }
         Form::Dref(a) => dref_kind(

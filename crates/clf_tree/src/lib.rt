@@ -5,6 +5,7 @@
 #![tactic(auto)]
 
 mod bounds;
+mod core_expr;
 mod expr;
 mod hierarchy;
 mod instance;
@@ -25,17 +26,23 @@ mod typed;
 mod vector;
 
 pub use bounds::{Bounds, intervals_hold, kinds_hold};
+pub use core_expr::{CoreExpr, CoreModel, Quantifier};
 pub use expr::{Expr, Form};
 pub use hierarchy::{is_a, is_a_is_closure, owners};
 pub use instance::{Entry, Instance, Node, Target};
 pub use kind::{Kind, Reading, Within};
-pub use kinds::kind_of;
+pub use kinds::{
+    clafers_of, dref_kind, if_kind, kind_of, left_kind, parent_kind, this_kind, union_kind,
+    variable_kind,
+};
 pub use model::{Clafer, Goal, Model, Reference, Rule};
 pub use module::{Declared, Interval, Item, Module, Pointer, Start};
 pub use named::Named;
 pub use plain::{Plain, PlainClafer};
 pub use readings::reading_of;
-pub use references::{is_one_of, parents_of, refer_to_int, reference_of, share, targets_of};
+pub use references::{
+    is_one_of, parents_of, refer_to_int, reference_of, references_are_inherited, share, targets_of,
+};
 pub use scopes::{Given, GivenScope, Scopes};
 pub use spelling::{SIGNS, WORDS, sign_of, word_of};
 pub use token::{Sign, Title, Token, TokenKind, Word, copy_titles};

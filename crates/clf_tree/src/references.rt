@@ -1,7 +1,10 @@
 //! What clafers refer to, and what stands above them.
 
-ghost use Rattle.std.specs.Prelude.{◌≡◌, ◌&&◌, ◌<◌, ◌^◌, ◌++◌, [], ◌∷◌, ℕ, List as Seq, length, vec_len, IfOk, IsTrue};
-ghost use Rattle.clf_tree.specs.Hierarchy.{is_closed, own_reference, super_of, reference_of, refers_to_int, target_of, refer_to_int, targets_of, is_one_of, share};
+ghost use Rattle.std.specs.Prelude.{◌≡◌, ◌&&◌, ◌<◌, ◌^◌, ◌++◌, [], ◌∷◌, ℕ, List as Seq, Some, length, vec_len, IfOk, IsTrue};
+ghost use Rattle.clf_tree.specs.declared.model.Clafer.{Clafer as AClafer};
+ghost use Rattle.clf_tree.specs.declared.model.Reference.{Reference as AReference};
+ghost use Rattle.clf_tree.specs.Hierarchy.{is_closed, own_reference, super_of, reference_of, refers_to_int, target_of, refer_to_int, targets_of, is_one_of, share, is_a};
+ghost use Rattle.clf_tree.specs.IntervalsHold.{refers_once};
 ghost use Rattle.clf_tree.specs.Lists.{numbers_below};
 ghost use Rattle.clf_tree.specs.Kinds.{parents_of};
 ghost use Rattle.clf_tree.specs.Marks.{MarksParents};
@@ -174,3 +177,8 @@ pub fn share(clafers: &List<Clafer>, ks: &List<u32>, ls: &List<u32>) -> bool
     }
     false
 }
+
+/// A clafer refers to what a clafer above it refers to, where no clafer that has a reference of its own inherits one.
+pub fn references_are_inherited()
+    ensures { (clafers : Seq AClafer) (low high : ℕ) (own above : AReference) → IsTrue (is_closed clafers) → IsTrue (refers_once clafers) → IsTrue (is_a clafers low high) → reference_of clafers low ≡ Some own → reference_of clafers high ≡ Some above → own ≡ above }
+{}
