@@ -1,2 +1,4 @@
 pub mod Numbering
 pub mod Placing
+pub mod Renamed
+pub mod Swapped

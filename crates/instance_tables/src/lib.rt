@@ -6,10 +6,14 @@
 
 mod node_set;
 mod places;
+mod renaming;
+#[cfg(test)]
+mod renaming_tests;
 mod slots;
 mod tables;
 #[cfg(test)]
 mod tests;
 
 pub use node_set::NodeSet;
+pub use renaming::rename;
 pub use tables::Tables;

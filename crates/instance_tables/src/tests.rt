@@ -98,15 +98,22 @@ fn comes_last(instance: &Instance, node: Node) -> bool
         .all(|entry| is_before(entry.node, node))
 }
 
+pub fn add_entry(instance: &mut Instance, entry: Entry) -> Result<(), Fail> {
+    if comes_last(instance, entry.node) {
+        instance.add(entry)?;
+    }
+    Ok(())
+}
+
 fn add(instance: &mut Instance, node: Node, parent: Option<Node>) -> Result<(), Fail> {
-    if comes_last(instance, node) {
-        instance.add(Entry {
+    add_entry(
+        instance,
+        Entry {
             node,
             parent,
             target: None,
-        })?;
-    }
-    Ok(())
+        },
+    )
 }
 
 #[test]

@@ -1,5 +1,4 @@
 use Rattle.std.proofs.Common.{None, take}
-use Rattle.clf_tree.specs.declared.instance.Node.{Node}
 use Rattle.clf_tree.specs.declared.instance.Entry.{Entry}
 use Rattle.instance_tables.proofs.Placing.{children_so_far, children_all}
 use Rattle.instance_tables.proofs.places.child_places.Goals as goal
