@@ -6,6 +6,7 @@ pub mod IntervalLaw
 pub mod IntervalsHold
 pub mod IsALaw
 pub mod Items
+pub mod NamedRows
 pub mod Numbers
 pub mod Ordered
 pub mod Rows

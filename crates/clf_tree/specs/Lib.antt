@@ -5,6 +5,7 @@ pub mod IntervalsHold
 pub mod Kinds
 pub mod Lists
 pub mod Meaning
+pub mod Named
 pub mod Nodes
 pub mod Numerics
 pub mod Renaming

@@ -3,11 +3,13 @@
 use crate::model::{Goal, Rule};
 use crate::module::{Interval, Pointer};
 use crate::token::Title;
-use clf_base::List;
+use clf_base::{List, Span};
 
-/// A clafer whose super and target are still names. Its parent is the number of the clafer that it is declared under.
+/// A clafer whose super and target are still names. It begins at `at`, and its parent is the number of the clafer that it is
+/// declared under.
 #[derive(Debug, Drop)]
 pub struct PlainClafer {
+    pub at: Span,
     pub title: Title,
     pub is_abstract: bool,
     pub parent: Option<u32>,
