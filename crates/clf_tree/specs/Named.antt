@@ -1,6 +1,6 @@
 -- What is known of a model once its names are looked up: each name is replaced by what it names, and nothing is refused.
-use Rattle.std.specs.Prelude.{ℕ, zero, suc, ◌==◌, ◌&&◌, ◌||◌, Bool, true, false, not, List, [], length, slice_get, slice_index, bytes_eq, nat_lt, Option, Some, None, is_some, is_none, IsTrue}
-use Rattle.std.specs.Option.{option_map_or}
+use Rattle.std.specs.Prelude.{ℕ, zero, suc, ◌==◌, ◌&&◌, ◌||◌, Bool, true, false, not, List, [], length, slice_get, slice_index, bytes_eq, nat_eq, nat_lt, Option, Some, None, is_some, is_none, IsTrue}
+use Rattle.std.specs.Option.{option_map_or, option_eq}
 use Rattle.std.specs.List.{filter, list_any, list_all}
 use Rattle.std.specs.Char.{is_ascii_alphabetic, is_ascii_alphanumeric}
 use Rattle.clf_tree.specs.declared.token.Title.{Title}
@@ -41,12 +41,6 @@ differ a b = not (bytes_eq a.name b.name)
 abbrev pub is_wrong : Interval → Bool
 is_wrong bounds = option_map_or (λ high. nat_lt high bounds.low) bounds.high false
 
--- whether both are the same number, or none
-abbrev pub same_place : Option ℕ → Option ℕ → Bool
-same_place (Some a) (Some b) = a == b
-same_place None None = true
-same_place _ _ = false
-
 -- ---- clafers
 
 abbrev pub has_name : Clafer → Bool
@@ -61,7 +55,7 @@ is_placed k = not k.is_abstract || is_none k.parent
 
 -- whether two clafers that are declared under one clafer, or both at top level, have different names
 abbrev pub are_told_apart : Clafer → Clafer → Bool
-are_told_apart a b = not (same_place a.parent b.parent && bytes_eq a.title.name b.title.name)
+are_told_apart a b = not (option_eq nat_eq a.parent b.parent && bytes_eq a.title.name b.title.name)
 
 module _ (clafers : List Clafer) where
   -- whether a test holds of the number of each clafer

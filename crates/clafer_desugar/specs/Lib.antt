@@ -1,0 +1,2 @@
+pub mod PlainModel
+pub mod Refusals
