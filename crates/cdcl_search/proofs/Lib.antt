@@ -17,3 +17,4 @@ pub mod Watch_steps
 pub mod Add_steps
 pub mod Order_steps
 pub mod Progress_steps
+pub mod Sweep_steps

@@ -60,8 +60,8 @@ open_watching store t w n l c m z cov dn ll = record {
 }
 
 pub open_whole : (s : Engine) (n : ℕ) → ((p : ℕ) → get_or s.trail.values.items p 0 ≡ 0) → length s.trail.values.items ≡ 2 * n → length s.trail.places.items ≡ n → length s.trail.reasons.items ≡ n → length s.trail.literals.items ≡ n
-    → s.trail.count ≡ 0 → s.trail.limits.items ≡ [] → s.chains.items ≡ [] → length s.analysis.marks.items ≡ n → s.given ≡ length s.arena → AreWithin s.arena n → 2 * n < 4294967296 → length s.arena < 2147483648 → IsCovered s.arena s.watches (length s.arena) → s.watches.done ≡ 0 → length s.watches.lists ≡ 2 * n → IsWhole s
-open_whole s n z a b r l c m k q g w f room cov dn ll =
+    → s.trail.count ≡ 0 → s.trail.limits.items ≡ [] → s.chains.items ≡ [] → length s.analysis.marks.items ≡ n → ((p : ℕ) → get_or s.analysis.marks.items p 0 ≡ 0) → s.given ≡ length s.arena → AreWithin s.arena n → 2 * n < 4294967296 → length s.arena < 2147483648 → IsCovered s.arena s.watches (length s.arena) → s.watches.done ≡ 0 → length s.watches.lists ≡ 2 * n → IsWhole s
+open_whole s n z a b r l c m k q y g w f room cov dn ll =
     let t : take s.given s.arena ≡ s.arena = rw g (take-length s.arena) in
     record {
       state = record {
@@ -81,6 +81,7 @@ open_whole s n z a b r l c m k q g w f room cov dn ll =
       };
       watching = open_watching s.arena s.trail s.watches n l c m z cov dn ll;
       marks = q ∙ sym l;
+      clear = λ _. y;
       given = omega (arith, g);
       named = rw (t, k, append-nil (map clause_of s.arena)) (named_given s.arena);
       lawful = rw k tt;

@@ -2,8 +2,10 @@
 use Rattle.std.proofs.Common.{ℕ, [], ◌∷◌, ◌++◌, ◌≡◌, ◌+◌, ◌-◌, ◌<◌, ◌≤◌, ◌≢◌, List, length, get_or, set, inl, inr, arith, ap, sym, ◌∙◌, length-append}
 use Rattle.std.proofs.Math.ListN.{length-set, get_or-append}
 use Rattle.std.proofs.Math.Seq.{get_or-append_seam}
-use Rattle.std.proofs.lemmas.List.{get_or-set_same, get_or-set_other}
+use Rattle.std.proofs.lemmas.List.{get_or-set_same, get_or-set_other, get_or-take}
 use Rattle.std.proofs.lemmas.Bool.{cases_eq, cases_lt}
+use Rattle.std.proofs.lemmas.Grind.{get_or_default_zero}
+use Rattle.std.specs.List.{swap_remove}
 use Rattle.cdcl_search.specs.Rows.{Stands, IsLess}
 
 pub removed_stands : (old new : List ℕ) (at : ℕ) → at < length old → length new + 1 ≡ length old → (at + 1 < length old → get_or new at 0 ≡ get_or old (length old - 1) 0)
@@ -25,6 +27,14 @@ removed_row old x at row h n k = record {
   shorter = rw (get_or-set_same {A = List ℕ} old x row []) n;
   keeps = λ m j b d s. rw (get_or-set_same {A = List ℕ} old x row []) (k m j b d s);
 }
+
+-- the last one stands at the place of the one that was taken out
+pub swapped_last : (xs : List ℕ) (i d : ℕ) → i + 1 < length xs → get_or (swap_remove xs i d) i 0 ≡ get_or xs (length xs - 1) 0
+swapped_last xs i d h = get_or-take (length xs - 1) (set xs i (get_or xs (length xs - 1) d)) i 0 (omega (arith, h)) ∙ get_or-set_same xs i (get_or xs (length xs - 1) d) 0 (omega (arith, h)) ∙ get_or_default_zero xs (length xs - 1) d (omega (arith, h))
+
+-- the others stay
+pub swapped_other : (xs : List ℕ) (i d k : ℕ) → k ≢ i → k + 1 < length xs → get_or (swap_remove xs i d) k 0 ≡ get_or xs k 0
+swapped_other xs i d k n h = get_or-take (length xs - 1) (set xs i (get_or xs (length xs - 1) d)) k 0 (omega (arith, h)) ∙ get_or-set_other xs i k (get_or xs (length xs - 1) d) 0 n
 
 pub stands_left : (xs ys : List ℕ) (m j : ℕ) → Stands xs m j → Stands (xs ++ ys) m j
 stands_left xs ys m j s = (s.0, s.1, omega (arith, s.2, length-append xs ys), get_or-append xs ys 0 s.0 s.2 ∙ s.3)

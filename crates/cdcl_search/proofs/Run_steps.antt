@@ -1,5 +1,5 @@
 -- What a conflict keeps of a search as a whole, and what the ends of a run mean.
-use Rattle.std.proofs.Common.{ℕ, [], ◌∷◌, ◌++◌, ◌≡◌, ◌*◌, ◌<◌, ◌≤◌, ◌≢◌, ◌⊎◌, List, length, get_or, take, inl, inr, arith, refl, ap, sym, ◌∙◌, length-append}
+use Rattle.std.proofs.Common.{ℕ, [], ◌∷◌, ◌++◌, ◌≡◌, ◌*◌, ◌<◌, ◌≤◌, ◌≢◌, ◌⊎◌, List, length, get_or, take, inl, inr, arith, refl, ap, sym, ◌∙◌, length-append, IsTrue}
 use Rattle.std.proofs.Math.ListN.{get_or-append}
 use Rattle.std.proofs.Math.Seq.{get_or-append_seam, take-append_seam}
 use Rattle.std.proofs.lemmas.List.{take-append-le, append-nil, append_assoc}
@@ -7,6 +7,7 @@ use Rattle.std.proofs.lemmas.Bool.{cases_eq}
 use Rattle.cdcl_search.specs.Literals.{Has}
 use Rattle.cdcl_search.specs.States.{IsState, AreQuiet}
 use Rattle.cdcl_search.specs.Watchings.{IsWatching}
+use Rattle.cdcl_search.specs.Marks.{AreClear}
 use Rattle.clause_store.specs.Resolution.{known_clauses}
 use Rattle.cdcl_search.specs.Learnings.{IsNew, IsNoTautology}
 use Rattle.cdcl_search.specs.Teachings.{Adds, IsTaught, IsRefuted}
@@ -22,9 +23,9 @@ pub given_stays : (g : ℕ) (store store' : List (List ℕ)) (c : List ℕ) → 
 given_stays g store store' c h e = ap (take g) e ∙ take-append-le g store (c ∷ []) h
 
 -- a search with one lawful chain more
-more_whole : (old new : Engine) (chain : Chain) (codes : List ℕ) → IsWhole old → IsState new.arena new.trail → IsWatching new.arena new.trail new.watches → length new.analysis.marks.items ≡ length new.trail.literals.items → new.given ≡ old.given
+more_whole : (old new : Engine) (chain : Chain) (codes : List ℕ) → IsWhole old → IsState new.arena new.trail → IsWatching new.arena new.trail new.watches → length new.analysis.marks.items ≡ length new.trail.literals.items → (IsTrue new.is_clear → AreClear new.analysis.marks.items) → new.given ≡ old.given
     → Adds old.arena old.chains.items new.arena new.chains.items chain codes → IsWhole new
-more_whole old new chain codes w s h m g a =
+more_whole old new chain codes w s h m z g a =
     let t : take new.given new.arena ≡ take old.given old.arena = ap (λ x. take x new.arena) g ∙ given_stays old.given old.arena new.arena codes w.given a.clause_added in
     let k = traced_lawful old.arena (known_clauses (given_clauses old) old.chains.items) chain codes w.named a.traced a.result_is in
     let n = named-push old.arena (known_clauses (given_clauses old) old.chains.items) codes chain.result w.named a.result_is in
@@ -32,25 +33,27 @@ more_whole old new chain codes w s h m g a =
       state = s;
       watching = h;
       marks = m;
+      clear = z;
       given = rw (g, a.clause_added, length-append old.arena (codes ∷ [])) (omega (arith, w.given));
       named = rw (t, a.chain_added, known-push (given_clauses old) old.chains.items chain, a.clause_added) n;
       lawful = rw (t, a.chain_added) (IsLawful-push (given_clauses old) old.chains.items chain w.lawful k);
     }
 
-pub taught_whole : (old new : Engine) → IsWhole old → IsState new.arena new.trail → IsWatching new.arena new.trail new.watches → length new.analysis.marks.items ≡ length new.trail.literals.items → new.given ≡ old.given
+pub taught_whole : (old new : Engine) → IsWhole old → IsState new.arena new.trail → IsWatching new.arena new.trail new.watches → length new.analysis.marks.items ≡ length new.trail.literals.items → (IsTrue new.is_clear → AreClear new.analysis.marks.items) → new.given ≡ old.given
     → IsTaught old.arena old.chains.items new.arena new.chains.items → IsWhole new
-taught_whole old new w s h m g t = more_whole old new t.chain t.codes w s h m g t.adds
+taught_whole old new w s h m z g t = more_whole old new t.chain t.codes w s h m z g t.adds
 
-pub refuted_whole : (old new : Engine) → IsWhole old → IsState new.arena new.trail → IsWatching new.arena new.trail new.watches → length new.analysis.marks.items ≡ length new.trail.literals.items → new.given ≡ old.given
+pub refuted_whole : (old new : Engine) → IsWhole old → IsState new.arena new.trail → IsWatching new.arena new.trail new.watches → length new.analysis.marks.items ≡ length new.trail.literals.items → (IsTrue new.is_clear → AreClear new.analysis.marks.items) → new.given ≡ old.given
     → IsRefuted old.arena old.chains.items new.arena new.chains.items → IsWhole new
-refuted_whole old new w s h m g t = more_whole old new t.chain [] w s h m g t.adds
+refuted_whole old new w s h m z g t = more_whole old new t.chain [] w s h m z g t.adds
 
-pub same_whole : (old new : Engine) → IsWhole old → IsState new.arena new.trail → IsWatching new.arena new.trail new.watches → length new.analysis.marks.items ≡ length new.trail.literals.items → new.given ≡ old.given
+pub same_whole : (old new : Engine) → IsWhole old → IsState new.arena new.trail → IsWatching new.arena new.trail new.watches → length new.analysis.marks.items ≡ length new.trail.literals.items → (IsTrue new.is_clear → AreClear new.analysis.marks.items) → new.given ≡ old.given
     → new.arena ≡ old.arena → new.chains.items ≡ old.chains.items → IsWhole new
-same_whole old new w s h m g ea ec = record {
+same_whole old new w s h m z g ea ec = record {
   state = s;
   watching = h;
   marks = m;
+  clear = z;
   given = rw (g, ea) w.given;
   named = rw (g, ea, ec) w.named;
   lawful = rw (g, ea, ec) w.lawful;

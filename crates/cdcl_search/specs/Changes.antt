@@ -54,7 +54,12 @@ abbrev pub IsOther : List ℕ → Option ℕ → Type 0
 IsOther c None = (j : ℕ) → j < length c → get_or c j 0 ≡ get_or c 0 0
 IsOther c (Some x) = Has c x × (x ≢ get_or c 0 0) × (0 < length c)
 
--- a literal of the clause that is not false and not the other watched one
+-- where a literal of the clause is that is not false and not the other watched one, from one index on and before another
+abbrev pub IsSpareBetween : List ℕ → List ℕ → ℕ → ℕ → ℕ → Option ℕ → Type 0
+IsSpareBetween v c other from to None = (j : ℕ) → from ≤ j → j < to → (get_or c j 0 ≡ other) ⊎ (get_or v (get_or c j 0) 0 ≡ 2)
+IsSpareBetween v c other from to (Some at) = (at < length c) × (get_or c at 0 ≢ other) × (get_or v (get_or c at 0) 0 ≢ 2)
+
+-- where it is in the whole clause
 abbrev pub IsSpare : List ℕ → List ℕ → ℕ → Option ℕ → Type 0
 IsSpare v c other None = (j : ℕ) → j < length c → (get_or c j 0 ≡ other) ⊎ (get_or v (get_or c j 0) 0 ≡ 2)
-IsSpare v c other (Some x) = Has c x × (x ≢ other) × (get_or v x 0 ≢ 2)
+IsSpare v c other (Some at) = (at < length c) × (get_or c at 0 ≢ other) × (get_or v (get_or c at 0) 0 ≢ 2)

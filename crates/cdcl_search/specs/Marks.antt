@@ -10,6 +10,10 @@ ones (suc b) (x ∷ m) = ones b m
 ones zero (zero ∷ m) = ones zero m
 ones zero (suc x ∷ m) = suc (ones zero m)
 
+-- there is no mark
+abbrev pub AreClear : List ℕ → Type 0
+AreClear m = (p : ℕ) → get_or m p 0 ≡ 0
+
 -- the literal is false, and there is a mark at its place
 pub record Marked (v w m : List ℕ) (l : ℕ) : Type 0 where
   pub value : get_or v l 0 ≡ 2
@@ -45,3 +49,8 @@ pub record GrownTo (w m m' c : List ℕ) (skip i : ℕ) : Type 0 where
   pub keeps : (p : ℕ) → get_or m p 0 ≢ 0 → get_or m' p 0 ≢ 0
   pub adds : (j : ℕ) → j < i → get_or c j 0 ≢ skip → get_or m' (get_or w (get_or c j 0 / 2) 0) 0 ≢ 0
   pub only : (p : ℕ) → get_or m' p 0 ≢ 0 → (get_or m p 0 ≢ 0) ⊎ ((l : ℕ) × Has c l × (l ≢ skip) × (get_or w (l / 2) 0 ≡ p))
+
+-- the marks of the first i literals are gone, and no mark has come
+pub record IsSwept (w m m' lower : List ℕ) (i : ℕ) : Type 0 where
+  pub gone : (j : ℕ) → j < i → get_or m' (get_or w (get_or lower j 0 / 2) 0) 0 ≡ 0
+  pub only : (p : ℕ) → get_or m' p 0 ≢ 0 → get_or m p 0 ≢ 0

@@ -1,5 +1,5 @@
 -- A search as a whole, and how a run of it ends.
-use Rattle.std.specs.Prelude.{ℕ, ◌≡◌, ◌+◌, ◌<◌, ◌≤◌, ◌⊎◌, ◌++◌, [], List, length, get_or, take, map, Bool, true, false}
+use Rattle.std.specs.Prelude.{ℕ, ◌≡◌, ◌+◌, ◌<◌, ◌≤◌, ◌⊎◌, ◌++◌, [], List, length, get_or, take, map, Bool, true, false, IsTrue}
 use Rattle.cdcl_search.specs.declared.engine.Engine.{Engine}
 use Rattle.cdcl_search.specs.declared.engine.Ended.{Ended}
 use Rattle.cdcl_search.specs.declared.engine.Ended.TheVariants.{Satisfied, Refuted, Spent}
@@ -7,6 +7,7 @@ use Rattle.clause_store.specs.declared.derivation.Chain.{Chain}
 use Rattle.cdcl_search.specs.Literals.{Has}
 use Rattle.cdcl_search.specs.States.{IsState}
 use Rattle.cdcl_search.specs.Watchings.{IsWatching}
+use Rattle.cdcl_search.specs.Marks.{AreClear}
 use Rattle.clause_store.specs.declared.clause.Literal.{Literal}
 use Rattle.clause_store.specs.Resolution.{known_clauses, IsLawful}
 use Rattle.cdcl_search.specs.Derivations.{IsNamed, clause_of}
@@ -23,6 +24,7 @@ pub record IsWhole (s : Engine) : Type 0 where
   pub state : IsState s.arena s.trail
   pub watching : IsWatching s.arena s.trail s.watches
   pub marks : length s.analysis.marks.items ≡ length s.trail.literals.items
+  pub clear : IsTrue s.is_clear → AreClear s.analysis.marks.items
   pub given : s.given ≤ length s.arena
   pub named : IsNamed s.arena (known_clauses (given_clauses s) s.chains.items)
   pub lawful : IsLawful (given_clauses s) s.chains.items

@@ -1,9 +1,9 @@
 //! The analysis of a conflict: resolution back along the trail to the first unique implication point.
-ghost use Rattle.std.specs.Prelude.{ℕ, ◌≡◌, ◌≢◌, ◌+◌, ◌*◌, ◌/◌, ◌<◌, ◌≤◌, ◌^◌, [], ◌∷◌, ◌++◌, length, get_or, IfOk};
+ghost use Rattle.std.specs.Prelude.{ℕ, ◌≡◌, ◌≢◌, ◌+◌, ◌*◌, ◌/◌, ◌<◌, ◌≤◌, ◌^◌, [], ◌∷◌, ◌++◌, length, get_or, IfOk, IsTrue};
 ghost use Rattle.cdcl_search.specs.Literals.{flip, Has};
 ghost use Rattle.cdcl_search.specs.Learnings.{IsAsserting};
 ghost use Rattle.cdcl_search.specs.Trails.{IsTrail};
-ghost use Rattle.cdcl_search.specs.Marks.{ones, IsMarked, IsOneMore, Grown};
+ghost use Rattle.cdcl_search.specs.Marks.{ones, IsMarked, IsOneMore, Grown, AreClear, IsSwept};
 ghost use Rattle.cdcl_search.specs.States.{IsState, IsFalse};
 ghost use Rattle.cdcl_search.specs.Explanations.{IsExplained, IsBase, AreMarksBelow};
 
@@ -23,12 +23,38 @@ pub struct Analysis {
 }
 
 fn clear(marks: &mut Vec<u8>)
-    ensures zero { (p : ℕ) → get_or marks.new.items p 0 ≡ 0 }
+    ensures zero { AreClear marks.new.items }
     ensures len { length marks.new.items ≡ length marks.old.items }
 {
     for at in 0..marks.len() {
         marks[at] = 0;
     }
+}
+
+/// Takes away the marks at the places of false literals.
+fn unmark(marks: &mut Vec<u8>, trail: &Trail, literals: &[u32])
+    requires trail { IsTrail trail.now.values.items trail.now.places.items trail.now.literals.items trail.now.count }
+    requires are_false { (l : ℕ) → Has literals.now l → get_or trail.now.values.items l 0 ≡ 2 }
+    requires size { length marks.old.items ≡ length trail.now.literals.items }
+    ensures swept { IsSwept trail.now.places.items marks.old.items marks.new.items literals.now (length literals.now) }
+    ensures size { length marks.new.items ≡ length marks.old.items }
+{
+    for literal in literals {
+        let place = trail.places[(*literal / 2) as usize];
+        marks[place as usize] = 0;
+    }
+}
+
+/// Takes all marks away, unless there are none anyway.
+fn ready(marks: &mut Vec<u8>, is_clear: bool)
+    requires { IsTrue is_clear → AreClear marks.old.items }
+    ensures zero { AreClear marks.new.items }
+    ensures len { length marks.new.items ≡ length marks.old.items }
+{
+    if is_clear {
+        return;
+    }
+    clear(marks);
 }
 
 impl Analysis {
@@ -124,18 +150,20 @@ impl Analysis {
         arena: &Arena,
         conflict: u32,
         base: usize,
+        is_clear: bool,
     ) -> Result<(), AllocError>
         requires state { IsState arena.now trail.now }
         requires conflict { conflict < length arena.now }
         requires is_false { IsFalse trail.now (get_or arena.now conflict []) }
         requires size { length self.old.marks.items ≡ length trail.now.literals.items }
+        requires clear { IsTrue is_clear → AreClear self.old.marks.items }
         ensures explained { IfOk result (λ _. IsExplained arena.now trail.now base self.new) }
         ensures top { IfOk result (λ _. AreMarksBelow self.new.marks.items trail.now.count) }
         ensures all { IfOk result (λ _. (l : ℕ) → Has (get_or arena.now conflict []) l → get_or self.new.marks.items (get_or trail.now.places.items (l / 2) 0) 0 ≢ 0) }
         ensures start { self.new.start ≡ conflict }
         ensures size { length self.new.marks.items ≡ length self.old.marks.items }
     {
-        clear(&mut self.marks);
+        ready(&mut self.marks, is_clear);
         self.lower.clear();
         self.steps.clear();
         self.counter = 0;
@@ -145,7 +173,7 @@ impl Analysis {
     }
 
     /// Explains a clause that is false, back to the first unique implication point of the last level, or, with
-    /// no level, to the empty clause.
+    /// no level, to the empty clause. Where the marks are clear its time grows with the literals that it meets.
     pub fn explain(
         &mut self,
         trail: &Trail,
@@ -153,12 +181,14 @@ impl Analysis {
         conflict: u32,
         base: usize,
         floor: usize,
+        is_clear: bool,
     ) -> Result<usize, AllocError>
         requires state { IsState arena.now trail.now }
         requires conflict { conflict < length arena.now }
         requires is_false { IsFalse trail.now (get_or arena.now conflict []) }
         requires base { IsBase trail.now base floor }
         requires size { length self.old.marks.items ≡ length trail.now.literals.items }
+        requires clear { IsTrue is_clear → AreClear self.old.marks.items }
         ensures explained { IfOk result (λ _. IsExplained arena.now trail.now base self.new) }
         ensures top { IfOk result (λ top. AreMarksBelow self.new.marks.items top) }
         ensures within { IfOk result (λ top. top ≤ trail.now.count) }
@@ -166,7 +196,7 @@ impl Analysis {
         ensures start { IfOk result (λ _. self.new.start ≡ conflict) }
         ensures size { length self.new.marks.items ≡ length self.old.marks.items }
     {
-        self.begin(trail, arena, conflict, base)?;
+        self.begin(trail, arena, conflict, base, is_clear)?;
         let mut top = trail.count;
         while self.counter > floor {
             top -= 1;
@@ -191,6 +221,21 @@ impl Analysis {
             at -= 1;
         }
         at
+    }
+
+    /// Takes the marks away: the one of the last level, at the place `last`, and those of the levels before.
+    pub fn sweep(&mut self, trail: &Trail, base: usize, last: usize)
+        requires trail { IsTrail trail.now.values.items trail.now.places.items trail.now.literals.items trail.now.count }
+        requires marked { IsMarked trail.now.values.items trail.now.places.items base (length trail.now.literals.items) self.old.marks.items self.old.lower.items 1 }
+        requires within { last < trail.now.count }
+        requires after { base ≤ last }
+        requires mark { get_or self.old.marks.items last 0 ≢ 0 }
+        ensures clear { AreClear self.new.marks.items }
+        ensures lower { self.new.lower ≡ self.old.lower }
+        ensures size { length self.new.marks.items ≡ length self.old.marks.items }
+    {
+        self.marks[last] = 0;
+        unmark(&mut self.marks, trail, &self.lower);
     }
 
     /// The clause that the marks stand for: the literals of the levels before, and the one of the last level.

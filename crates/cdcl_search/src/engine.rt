@@ -6,6 +6,7 @@ ghost use Rattle.cdcl_search.specs.Runs.{IsWhole, IsConflictDone, IsEnded, IsSte
 use crate::analysis::Analysis;
 use crate::arena::Arena;
 use crate::decision::{choose, decide, next_open};
+use crate::hints::Hints;
 use crate::order::Order;
 use crate::propagation::propagate;
 use crate::restarts::{Restarts, restart};
@@ -39,6 +40,9 @@ pub struct Engine {
     pub order: Order,
     pub restarts: Restarts,
     pub analysis: Analysis,
+    /// Whether the analysis has no marks, as it is after each clause that was learned.
+    pub is_clear: bool,
+    pub hints: Hints,
     pub chains: Vec<Chain>,
 }
 
@@ -55,6 +59,8 @@ impl Engine {
         ensures given { take self.new.given self.new.arena ≡ take self.old.given self.old.arena }
         ensures size { length self.new.trail.literals.items ≡ length self.old.trail.literals.items }
     {
+        let is_clear = self.is_clear;
+        self.is_clear = false;
         let depth = self.trail.limits.len();
         if depth == 0 {
             refute(
@@ -65,14 +71,16 @@ impl Engine {
                 &mut self.analysis,
                 &mut self.chains,
                 at,
+                is_clear,
             )?;
             return Ok(true);
         }
         let base = self.trail.limits[depth - 1] as usize;
         let top = self
             .analysis
-            .explain(&self.trail, &self.arena, at, base, 1)?;
+            .explain(&self.trail, &self.arena, at, base, 1, is_clear)?;
         self.order.raise(&self.analysis);
+        self.hints.push()?;
         teach(
             self.alloc,
             &mut self.trail,
@@ -84,6 +92,7 @@ impl Engine {
             top,
             base,
         )?;
+        self.is_clear = true;
         self.restart_if_due()?;
         Ok(false)
     }
@@ -121,7 +130,12 @@ impl Engine {
         let mut left = budget;
         let mut turn = 0u64;
         loop {
-            match propagate(&mut self.trail, &self.arena, &mut self.watches)? {
+            match propagate(
+                &mut self.trail,
+                &self.arena,
+                &mut self.watches,
+                &mut self.hints,
+            )? {
                 Some(at) => {
                     if self.conflict(at)? {
                         return Ok(Ended::Refuted);

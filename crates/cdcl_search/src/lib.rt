@@ -5,6 +5,7 @@ mod analysis;
 mod arena;
 mod decision;
 mod engine;
+mod hints;
 mod learning;
 mod lists;
 mod loading;

@@ -2,13 +2,15 @@
 ghost use Rattle.std.specs.Prelude.{ℕ, ◌≡◌, ◌+◌, ◌<◌, ◌≤◌, ◌++◌, [], ◌∷◌, length, get_or, set, List, IfOk, IfErr};
 ghost use Rattle.cdcl_search.specs.Rows.{IsLess};
 
+use smallvec::SmallVec;
 use std::alloc::{AllocError, Global};
 use std::marker::Model;
 
-/// For each literal a list of numbers.
+/// For each literal a list of numbers. Most lists are short: up to four numbers stand in place, so that such a list takes 32
+/// bytes and no allocation.
 #[derive(Drop)]
 pub struct Lists {
-    rows: Vec<Vec<u32>>,
+    rows: Vec<SmallVec<u32, 4>>,
 }
 
 impl Model for Lists {
@@ -26,7 +28,7 @@ impl Lists {
     {
         let mut rows = Vec::new(alloc);
         for at in 0..n {
-            rows.push(Vec::new(alloc))?;
+            rows.push(SmallVec::new(alloc))?;
         }
         Ok(Lists { rows })
     }

@@ -8,6 +8,7 @@ ghost use Rattle.cdcl_search.specs.Runs.{IsWhole};
 use crate::analysis::Analysis;
 use crate::arena::Arena;
 use crate::engine::Engine;
+use crate::hints::Hints;
 use crate::lists::Lists;
 use crate::order::Order;
 use crate::restarts::Restarts;
@@ -36,13 +37,15 @@ fn words(alloc: Global, n: usize) -> Result<Vec<u32>, AllocError>
     Ok(v)
 }
 
-/// A literal of the clause that is not its first one.
+/// The last literal of the clause that is not its first one. So the clauses of a gate are spread over the lists of its
+/// operands and its own.
 fn other(clause: &[u32]) -> Option<u32>
     ensures { IsOther clause.now result }
 {
-    for literal in clause {
-        if *literal != clause[0] {
-            return Some(*literal);
+    for behind in 0..clause.len() {
+        let literal = clause[clause.len() - 1 - behind];
+        if literal != clause[0] {
+            return Some(literal);
         }
     }
     None
@@ -119,6 +122,7 @@ pub fn open(alloc: Global, variables: u32, given: Arena) -> Result<Engine, Alloc
     };
     let watches = watched(alloc, 2 * n, &given)?;
     let order = Order::new(alloc, variables)?;
+    let hints = Hints::new(alloc, given.len());
     Ok(Engine {
         alloc,
         given: given.len(),
@@ -128,6 +132,8 @@ pub fn open(alloc: Global, variables: u32, given: Arena) -> Result<Engine, Alloc
         order,
         restarts: Restarts::new(),
         analysis,
+        is_clear: true,
+        hints,
         chains: Vec::new(alloc),
     })
 }

@@ -2,10 +2,11 @@
 ghost use Rattle.std.specs.Prelude.{ℕ, ◌≡◌, ◌≢◌, ◌+◌, ◌*◌, ◌/◌, ◌<◌, ◌≤◌, ◌⊎◌, [], length, get_or, IfOk, IfErr, MatchOption};
 ghost use Rattle.cdcl_search.specs.Trails.{zeros, AllBelow};
 ghost use Rattle.cdcl_search.specs.States.{IsState, IsPropagated, IsFalse};
-ghost use Rattle.cdcl_search.specs.Changes.{IsSpare};
+ghost use Rattle.cdcl_search.specs.Changes.{IsSpare, IsSpareBetween};
 ghost use Rattle.cdcl_search.specs.Watchings.{IsWatching, IsVisiting, IsVisited, AreSettled, KeepsTrue};
 
 use crate::arena::Arena;
+use crate::hints::Hints;
 use crate::trail::{FALSE, Status, TRUE, Trail, flipped};
 use crate::watches::{Watches, partner};
 use std::alloc::AllocError;
@@ -20,17 +21,33 @@ pub enum Visit {
     Conflict(u32),
 }
 
-/// A literal of the clause that is not false and not the other one that is watched.
-fn spare(trail: &Trail, clause: &[u32], other: u32) -> Option<u32>
-    requires { AllBelow clause.now (length trail.now.values.items) }
-    ensures { IsSpare trail.now.values.items clause.now other result }
+/// The index of a literal that is not false and not the other one that is watched, from one index on and before another.
+fn spare_between(trail: &Trail, clause: &[u32], other: u32, from: usize, to: usize) -> Option<usize>
+    requires below { AllBelow clause.now (length trail.now.values.items) }
+    requires within { to ≤ length clause.now }
+    ensures { IsSpareBetween trail.now.values.items clause.now other from to result }
 {
-    for literal in clause {
-        if *literal != other && trail.values[*literal as usize] != FALSE {
-            return Some(*literal);
+    for at in from..to {
+        let literal = clause[at];
+        if literal != other && trail.values[literal as usize] != FALSE {
+            return Some(at);
         }
     }
     None
+}
+
+/// The index of a literal of the clause that is not false and not the other one that is watched, where the search begins at a hint.
+fn spare(trail: &Trail, clause: &[u32], other: u32, hint: usize) -> Option<usize>
+    requires { AllBelow clause.now (length trail.now.values.items) }
+    ensures { IsSpare trail.now.values.items clause.now other result }
+{
+    if hint >= clause.len() {
+        return spare_between(trail, clause, other, 0, clause.len());
+    }
+    match spare_between(trail, clause, other, hint, clause.len()) {
+        Some(at) => Some(at),
+        None => spare_between(trail, clause, other, 0, hint),
+    }
 }
 
 /// Lets a clause watch another literal in place of a false one, or makes its other watched literal true.
@@ -38,6 +55,7 @@ fn renew(
     trail: &mut Trail,
     arena: &Arena,
     watches: &mut Watches,
+    hints: &mut Hints,
     literal: u32,
     index: usize,
     clause: u32,
@@ -62,9 +80,11 @@ fn renew(
     if trail.values[other as usize] == TRUE {
         return Ok(Visit::Passed);
     }
-    match spare(trail, arena.clause(clause as usize), other) {
-        Some(fresh) => {
-            watches.rewatch(clause, other, fresh)?;
+    let literals = arena.clause(clause as usize);
+    match spare(trail, literals, other, hints.index(clause as usize)) {
+        Some(at) => {
+            hints.keep(clause as usize, at);
+            watches.rewatch(clause, other, literals[at])?;
             watches.lists.remove(literal, index);
             Ok(Visit::Moved)
         }
@@ -83,6 +103,7 @@ fn visit_one(
     trail: &mut Trail,
     arena: &Arena,
     watches: &mut Watches,
+    hints: &mut Hints,
     literal: u32,
     index: usize,
 ) -> Result<Visit, AllocError>
@@ -109,7 +130,7 @@ fn visit_one(
         watches.seconds[clause as usize],
         literal,
     ) {
-        Some(other) => renew(trail, arena, watches, literal, index, clause, other),
+        Some(other) => renew(trail, arena, watches, hints, literal, index, clause, other),
         None => {
             watches.lists.remove(literal, index);
             Ok(Visit::Moved)
@@ -122,6 +143,7 @@ fn visit_all(
     trail: &mut Trail,
     arena: &Arena,
     watches: &mut Watches,
+    hints: &mut Hints,
     literal: u32,
 ) -> Result<Option<u32>, AllocError>
     requires state { IsState arena.now trail.old }
@@ -138,7 +160,7 @@ fn visit_all(
 {
     let mut index = 0;
     while index < watches.lists.len(literal) {
-        match visit_one(trail, arena, watches, literal, index)? {
+        match visit_one(trail, arena, watches, hints, literal, index)? {
             Visit::Passed => index += 1,
             Visit::Moved => (),
             Visit::Conflict(clause) => return Ok(Some(clause)),
@@ -172,7 +194,12 @@ fn settle(trail: &mut Trail, arena: &Arena, watches: &Watches) -> Option<u32>
 }
 
 /// Visits the clauses of each literal that became false, until one is false or nothing follows.
-fn drain(trail: &mut Trail, arena: &Arena, watches: &mut Watches) -> Result<Option<u32>, AllocError>
+fn drain(
+    trail: &mut Trail,
+    arena: &Arena,
+    watches: &mut Watches,
+    hints: &mut Hints,
+) -> Result<Option<u32>, AllocError>
     requires state { IsState arena.now trail.old }
     requires watching { IsWatching arena.now trail.old watches.old }
     requires settled { AreSettled arena.now trail.old watches.old (length watches.old.short.items) }
@@ -186,7 +213,7 @@ fn drain(trail: &mut Trail, arena: &Arena, watches: &mut Watches) -> Result<Opti
 {
     while watches.done < trail.count {
         let literal = flipped(trail.literals[watches.done]);
-        match visit_all(trail, arena, watches, literal)? {
+        match visit_all(trail, arena, watches, hints, literal)? {
             Some(clause) => return Ok(Some(clause)),
             None => watches.done += 1,
         }
@@ -199,6 +226,7 @@ pub fn propagate(
     trail: &mut Trail,
     arena: &Arena,
     watches: &mut Watches,
+    hints: &mut Hints,
 ) -> Result<Option<u32>, AllocError>
     requires state { IsState arena.now trail.old }
     requires watching { IsWatching arena.now trail.old watches.old }
@@ -211,10 +239,10 @@ pub fn propagate(
     ensures further { zeros trail.new.values.items ≤ zeros trail.old.values.items }
 {
     if trail.limits.len() > 0 {
-        return drain(trail, arena, watches);
+        return drain(trail, arena, watches, hints);
     }
     match settle(trail, arena, watches) {
         Some(clause) => Ok(Some(clause)),
-        None => drain(trail, arena, watches),
+        None => drain(trail, arena, watches, hints),
     }
 }

@@ -1,8 +1,9 @@
 //! A conflict's chain: what the analysis found, kept as a clause with its derivation.
-ghost use Rattle.std.specs.Prelude.{ℕ, ◌≡◌, ◌+◌, ◌-◌, ◌*◌, ◌/◌, ◌<◌, ◌≤◌, ◌^◌, ◌⊎◌, [], ◌∷◌, ◌++◌, length, get_or, IfOk, IfErr, OnErr};
+ghost use Rattle.std.specs.Prelude.{ℕ, ◌≡◌, ◌+◌, ◌-◌, ◌*◌, ◌/◌, ◌<◌, ◌≤◌, ◌^◌, ◌⊎◌, [], ◌∷◌, ◌++◌, length, get_or, IfOk, IfErr, OnErr, IsTrue};
 ghost use Rattle.cdcl_search.specs.States.{IsState, IsFalse};
 ghost use Rattle.cdcl_search.specs.Explanations.{IsExplained, IsBase, AreMarksBelow};
 ghost use Rattle.cdcl_search.specs.Watchings.{IsWatching};
+ghost use Rattle.cdcl_search.specs.Marks.{AreClear};
 ghost use Rattle.cdcl_search.specs.Teachings.{IsTaught, IsRefuted};
 
 use crate::analysis::Analysis;
@@ -44,6 +45,7 @@ pub fn teach(
     ensures failed_chains { IfErr result (λ _. chains.new.items ≡ chains.old.items) }
     ensures size { length trail.new.literals.items ≡ length trail.old.literals.items }
     ensures marks { length analysis.new.marks.items ≡ length analysis.old.marks.items }
+    ensures clear { IfOk result (λ _. AreClear analysis.new.marks.items) }
 {
     let (place, clause) = analysis.clause(alloc, trail, top, base)?;
     let result = ascending(alloc, &clause)?;
@@ -53,6 +55,7 @@ pub fn teach(
         steps,
         result,
     })?;
+    analysis.sweep(trail, base, place);
     match learn(
         trail,
         arena,
@@ -80,6 +83,7 @@ pub fn refute(
     analysis: &mut Analysis,
     chains: &mut Vec<Chain>,
     conflict: u32,
+    is_clear: bool,
 ) -> Result<(), NoMemory>
     requires state { IsState arena.old trail.now }
     requires watching { IsWatching arena.old trail.now watches.old }
@@ -88,6 +92,7 @@ pub fn refute(
     requires conflict { conflict < length arena.old }
     requires is_false { IsFalse trail.now (get_or arena.old conflict []) }
     requires marks { length analysis.old.marks.items ≡ length trail.now.literals.items }
+    requires clear { IsTrue is_clear → AreClear analysis.old.marks.items }
     ensures state { IsState arena.new trail.now }
     ensures watching { IsWatching arena.new trail.now watches.new }
     ensures refuted { IfOk result (λ _. IsRefuted arena.old chains.old.items arena.new chains.new.items) }
@@ -95,7 +100,7 @@ pub fn refute(
     ensures failed_chains { IfErr result (λ _. chains.new.items ≡ chains.old.items) }
     ensures marks { length analysis.new.marks.items ≡ length analysis.old.marks.items }
 {
-    let _ = analysis.explain(trail, arena, conflict, 0, 0)?;
+    let _ = analysis.explain(trail, arena, conflict, 0, 0, is_clear)?;
     watches.add_short(arena.len() as u32)?;
     let steps = List::from_slice(alloc, &analysis.steps)?;
     let result = Clause::new(List::new(alloc));

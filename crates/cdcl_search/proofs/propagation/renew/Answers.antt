@@ -1,8 +1,9 @@
-use Rattle.std.proofs.Common.{◌≡◌, ◌+◌, [], get_or, arith, refl, sym, ◌∙◌, None}
+use Rattle.std.proofs.Common.{◌≡◌, ◌+◌, [], get_or, arith, refl, sym, ◌∙◌, None, subst}
 use Rattle.std.proofs.lemmas.Grind.{common_steps}
 use Rattle.cdcl_search.specs.Literals.{Has}
 use Rattle.cdcl_search.specs.Trails.{zeros}
 use Rattle.cdcl_search.specs.Changes.{IsSpare}
+use Rattle.cdcl_search.proofs.Members.{Has-at}
 use Rattle.cdcl_search.proofs.State_steps.{forced_state, zeros_fall}
 use Rattle.cdcl_search.proofs.Watch_steps.{visiting_watching, visiting_passed, other_below, fresh_below, spare_forces, spare_false, visiting_moved, visiting_forced, keeps_assigned}
 use Rattle.cdcl_search.proofs.propagation.renew.Goals as goal
@@ -25,8 +26,8 @@ returns-then-index-eq-TRUE-clause-visited c =
 
 pub rewatch-requires-clause-row : goal.rewatch-requires-clause-row
 rewatch-requires-clause-row c =
-    let h : Has (get_or c.args.arena.now c.args.clause []) c.in-Some.fresh = rw c.clause.ensures at c.in-Some.ensures.0 in
-    omega (arith, fresh_below c.args.arena.now c.args.trail.now c.args.clause c.in-Some.fresh c.requires.state c.requires.given h, c.requires.visiting.room.lists)
+    let h : Has (get_or c.args.arena.now c.args.clause []) (get_or c.clause-literals.result.now c.in-Some.at 0) = subst (λ l. Has l (get_or c.clause-literals.result.now c.in-Some.at 0)) c.clause-literals.ensures (Has-at c.clause-literals.result.now c.in-Some.at c.in-Some.ensures.0) in
+    omega (arith, fresh_below c.args.arena.now c.args.trail.now c.args.clause (get_or c.clause-literals.result.now c.in-Some.at 0) c.requires.state c.requires.given h, c.requires.visiting.room.lists)
 
 pub index-requires-in-None : goal.index-requires-in-None
 index-requires-in-None c =
@@ -38,7 +39,7 @@ returns-then-index-eq-FALSE-clause-visited c =
     let o = other_below c.args.arena.now c.args.trail.now c.args.watches.now c.args.literal c.args.index c.args.clause c.args.other c.requires.state c.requires.visiting c.requires.given c.requires.pair in
     let n = c.requires.state.search.trail.values_len in
     let v : c.index-in-None.result.now ≡ get_or c.args.trail.now.values.items c.args.other 0 = grind (arith, common_steps) in
-    let z : IsSpare c.args.trail.now.values.items (get_or c.args.arena.now c.args.clause []) c.args.other None = rw c.clause.ensures at c.in-None.ensures in (
+    let z : IsSpare c.args.trail.now.values.items (get_or c.args.arena.now c.args.clause []) c.args.other None = rw c.clause-literals.ensures at c.in-None.ensures in (
       visiting_watching c.args.arena.now c.args.trail.now c.args.watches.now c.args.literal c.args.index c.requires.visiting,
       c.requires.given,
       spare_false c.args.arena.now c.args.trail.now c.args.clause c.args.other c.requires.state z (sym v ∙ c.if-index-eq-FALSE.true),
@@ -49,13 +50,13 @@ assign-requires-clause-within c = other_below c.args.arena.now c.args.trail.now 
 
 pub returns-in_ok-rewatch-in-Some-clause-visited : goal.returns-in_ok-rewatch-in-Some-clause-visited
 returns-in_ok-rewatch-in-Some-clause-visited c =
-    let h : Has (get_or c.args.arena.now c.args.clause []) c.in-Some.fresh = rw c.clause.ensures at c.in-Some.ensures.0 in
-    (visiting_moved c.args.arena.now c.args.trail.now c.args.watches.now c.rewatch.new.self _ c.args.literal c.args.index c.args.clause c.args.other c.in-Some.fresh c.requires.state c.requires.visiting c.in_ok-rewatch-in-Some.ensures.done c.requires.given c.requires.clause c.requires.pair h c.in-Some.ensures.1 c.in-Some.ensures.2 c.remove.ensures refl refl refl refl)
+    let h : Has (get_or c.args.arena.now c.args.clause []) (get_or c.clause-literals.result.now c.in-Some.at 0) = subst (λ l. Has l (get_or c.clause-literals.result.now c.in-Some.at 0)) c.clause-literals.ensures (Has-at c.clause-literals.result.now c.in-Some.at c.in-Some.ensures.0) in
+    (visiting_moved c.args.arena.now c.args.trail.now c.args.watches.now c.rewatch.new.self _ c.args.literal c.args.index c.args.clause c.args.other (get_or c.clause-literals.result.now c.in-Some.at 0) c.requires.state c.requires.visiting c.in_ok-rewatch-in-Some.ensures.done c.requires.given c.requires.clause c.requires.pair h c.in-Some.ensures.1 c.in-Some.ensures.2 c.remove.ensures refl refl refl refl)
 
 pub returns-in_ok-rewatch-in-Some-clause-watching : goal.returns-in_ok-rewatch-in-Some-clause-watching
 returns-in_ok-rewatch-in-Some-clause-watching c =
-    let h : Has (get_or c.args.arena.now c.args.clause []) c.in-Some.fresh = rw c.clause.ensures at c.in-Some.ensures.0 in
-    visiting_watching c.args.arena.now c.args.trail.now _ c.args.literal c.args.index ((visiting_moved c.args.arena.now c.args.trail.now c.args.watches.now c.rewatch.new.self _ c.args.literal c.args.index c.args.clause c.args.other c.in-Some.fresh c.requires.state c.requires.visiting c.in_ok-rewatch-in-Some.ensures.done c.requires.given c.requires.clause c.requires.pair h c.in-Some.ensures.1 c.in-Some.ensures.2 c.remove.ensures refl refl refl refl).0)
+    let h : Has (get_or c.args.arena.now c.args.clause []) (get_or c.clause-literals.result.now c.in-Some.at 0) = subst (λ l. Has l (get_or c.clause-literals.result.now c.in-Some.at 0)) c.clause-literals.ensures (Has-at c.clause-literals.result.now c.in-Some.at c.in-Some.ensures.0) in
+    visiting_watching c.args.arena.now c.args.trail.now _ c.args.literal c.args.index ((visiting_moved c.args.arena.now c.args.trail.now c.args.watches.now c.rewatch.new.self _ c.args.literal c.args.index c.args.clause c.args.other (get_or c.clause-literals.result.now c.in-Some.at 0) c.requires.state c.requires.visiting c.in_ok-rewatch-in-Some.ensures.done c.requires.given c.requires.clause c.requires.pair h c.in-Some.ensures.1 c.in-Some.ensures.2 c.remove.ensures refl refl refl refl).0)
 
 pub returns-else-index-eq-FALSE-clause-state : goal.returns-else-index-eq-FALSE-clause-state
 returns-else-index-eq-FALSE-clause-state c =
@@ -64,7 +65,7 @@ returns-else-index-eq-FALSE-clause-state c =
     let v : c.index-in-None.result.now ≡ get_or c.args.trail.now.values.items c.args.other 0 = grind (arith, common_steps) in
     let y : c.index.result.now ≡ get_or c.args.trail.now.values.items c.args.other 0 = grind (arith, common_steps) in
     let z : get_or c.args.trail.now.values.items c.args.other 0 ≡ 0 = omega (arith, v, y, c.if-index-eq-TRUE.false, c.if-index-eq-FALSE.false, c.requires.state.search.trail.at_most_two c.args.other) in
-    let f : IsSpare c.args.trail.now.values.items (get_or c.args.arena.now c.args.clause []) c.args.other None = rw c.clause.ensures at c.in-None.ensures in
+    let f : IsSpare c.args.trail.now.values.items (get_or c.args.arena.now c.args.clause []) c.args.other None = rw c.clause-literals.ensures at c.in-None.ensures in
     forced_state c.args.arena.now _ _ _ _ c.requires.state c.assign.ensures z c.requires.given (spare_forces c.args.arena.now c.args.trail.now c.args.watches.now c.args.literal c.args.index c.args.clause c.args.other c.requires.state c.requires.visiting c.requires.given c.requires.pair f)
 
 pub returns-else-index-eq-FALSE-clause-visited : goal.returns-else-index-eq-FALSE-clause-visited

@@ -1,9 +1,9 @@
 use Rattle.std.proofs.Common.{ℕ, ◌≡◌, ◌≢◌, ◌+◌, ◌-◌, ◌<◌, [], length, get_or, set, arith, sym, ◌∙◌, ap}
-use Rattle.std.specs.Vec.{vec_len}
+use Rattle.std.specs.List.{swap_remove}
 use Rattle.std.proofs.lemmas.Grind.{common_steps}
 use Rattle.std.proofs.lemmas.List.{length-map, map-set, get_or-map}
 use Rattle.cdcl_search.specs.Rows.{IsLess}
-use Rattle.cdcl_search.proofs.Row_steps.{removed_stands, removed_row}
+use Rattle.cdcl_search.proofs.Row_steps.{removed_stands, removed_row, swapped_last, swapped_other}
 use Rattle.cdcl_search.proofs.lists.Lists.remove.Goals as goal
 
 pub returns : goal.returns
@@ -13,12 +13,12 @@ returns c =
     let r : c.index_mut.result.now ≡ get_or c.self.inside.rows.items c.args.literal c.index_mut.result.now = grind (arith, common_steps) in
     let g = get_or-map (λ r. r.items) c.self.inside.rows.items c.args.literal c.index_mut.result.now [] b in
     let e : c.index_mut.result.now.items ≡ get_or c.args.self.now c.args.literal [] = ap (λ x. x.items) r ∙ sym g ∙ ap (λ x. get_or x c.args.literal []) c.self.view_is in
-    let ol : vec_len c.index_mut.result.now ≡ length (get_or c.args.self.now c.args.literal []) = omega (arith, c.index_mut.result.now.ok, ap length e) in
-    let l : length c.swap_remove.new.self.items + 1 ≡ length (get_or c.args.self.now c.args.literal []) = omega (arith, c.swap_remove.ensures.len, c.swap_remove.new.self.ok, ol) in
+    let l : length c.swap_remove.new.self.items + 1 ≡ length (get_or c.args.self.now c.args.literal []) = c.swap_remove.ensures.len ∙ ap length e in
+    let w : c.swap_remove.new.self.items ≡ swap_remove (get_or c.args.self.now c.args.literal []) c.args.index c.swap_remove.result = c.swap_remove.ensures.items ∙ ap (λ x. swap_remove x c.args.index c.swap_remove.result) e in
     let last : c.args.index + 1 < length (get_or c.args.self.now c.args.literal []) → get_or c.swap_remove.new.self.items c.args.index 0 ≡ get_or (get_or c.args.self.now c.args.literal []) (length (get_or c.args.self.now c.args.literal []) - 1) 0
-    = λ h. c.swap_remove.ensures.by_index.0 0 (omega (arith, ol, h)) ∙ ap (λ k. get_or c.index_mut.result.now.items (k - 1) 0) ol ∙ ap (λ x. get_or x (length (get_or c.args.self.now c.args.literal []) - 1) 0) e in
+    = λ h. ap (λ x. get_or x c.args.index 0) w ∙ swapped_last (get_or c.args.self.now c.args.literal []) c.args.index c.swap_remove.result h in
     let rest : (k : ℕ) → k ≢ c.args.index → k + 1 < length (get_or c.args.self.now c.args.literal []) → get_or c.swap_remove.new.self.items k 0 ≡ get_or (get_or c.args.self.now c.args.literal []) k 0
-    = λ k d h. c.swap_remove.ensures.by_index.1 k 0 d (omega (arith, ol, h)) ∙ ap (λ x. get_or x k 0) e in
+    = λ k d h. ap (λ x. get_or x k 0) w ∙ swapped_other (get_or c.args.self.now c.args.literal []) c.args.index c.swap_remove.result k d h in
     let z : IsLess c.args.self.now (set c.args.self.now c.args.literal c.swap_remove.new.self.items) c.args.literal c.args.index =
     removed_row c.args.self.now c.args.literal c.args.index c.swap_remove.new.self.items c.requires.row l
     (removed_stands (get_or c.args.self.now c.args.literal []) c.swap_remove.new.self.items c.args.index c.requires.within l last rest) in
