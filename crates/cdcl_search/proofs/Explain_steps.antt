@@ -14,7 +14,7 @@ use Rattle.clause_store.specs.declared.derivation.Step.{Step}
 use Rattle.cdcl_search.specs.declared.analysis.Analysis.{Analysis}
 use Rattle.cdcl_search.proofs.Members.{Has-index, Has-at}
 use Rattle.cdcl_search.proofs.Resolution.{resolved-push, AreLawful-push}
-use Rattle.cdcl_search.proofs.Mark_steps.{ones-none, none-ones, ones-clear, clash, resolved_covers, others_false, same_place}
+use Rattle.cdcl_search.proofs.Mark_steps.{ones-none, none-ones, ones-clear, clash, resolved_covers, others_false, same_place, still}
 
 -- the reason of the literal at a place
 abbrev pub reason_at : Trail → ℕ → ℕ
@@ -85,7 +85,6 @@ pub fresh : (v w : List ℕ) (base n : ℕ) (m : List ℕ) → ((p : ℕ) → ge
 fresh v w base n m z e = record {
   len = e;
   below = λ l h. absurd h;
-  lower_marked = λ l h. absurd h;
   marked_lower = λ l f x. absurd (x (z (get_or w (l / 2) 0)));
   counts = sym (none-ones base m (λ p q. z p));
 }
@@ -139,3 +138,15 @@ ones_top base m top b h = elim (cases_lt base top) [
   | inl e ↦ e
   | inr e ↦ absurd (let z : ones base m ≡ 0 = none-ones base m (λ p q. elim (cases_eq (get_or m p 0) 0) [ inl y ↦ y | inr y ↦ absurd (omega (arith, b p y)) ]) in omega (arith, z))
 ]
+
+-- a literal of the levels before whose reason's other literals are marked is left out
+pub left_out : (store : List (List ℕ)) (t : Trail) (base k : ℕ) (a : Analysis) (s : Step) → IsState store t → IsExplained store t base a → k < t.count → k < base
+    → get_or a.marks.items k 0 ≢ 0 → reason_at t k ≢ 4294967295 → s.clause ≡ reason_at t k → s.pivot ≡ get_or t.literals.items k 0 / 2
+    → ((l : ℕ) → Has (get_or store s.clause []) l → l ≢ get_or t.literals.items k 0 → get_or a.marks.items (get_or t.places.items (l / 2) 0) 0 ≢ 0)
+    → AreLawful store (get_or store a.start []) (a.steps.items ++ s ∷ []) × Covers t.values.items t.places.items (set a.marks.items k 0) (resolved store (get_or store a.start []) (a.steps.items ++ s ∷ []))
+left_out store t base k a s x e h b z n c p i =
+    let g : Grown t.places.items a.marks.items a.marks.items (get_or store s.clause []) (get_or t.literals.items k 0) = record { keeps = λ q y. y; adds = i; only = λ q y. inl y } in
+    (explained_lawful store t base k a s x e h z n c p, explained_covers store t base k a s a.marks.items x e h n c p g e.marked.len)
+
+pub still_below : (m : List ℕ) (k top : ℕ) → AreMarksBelow m top → AreMarksBelow (set m k 0) top
+still_below m k top b p x = b p (λ e. x (still m k p e))

@@ -5,7 +5,7 @@ use Rattle.std.proofs.lemmas.List.{get_or-set_other}
 use Rattle.cdcl_search.specs.Literals.{flip, Has}
 use Rattle.cdcl_search.specs.Trails.{IsTrail, FalseBelow, Agree}
 use Rattle.cdcl_search.specs.Searches.{Quiet, Forces}
-use Rattle.cdcl_search.specs.Marks.{ones, Covers, IsMarked}
+use Rattle.cdcl_search.specs.Marks.{ones, Covers, IsMarked, AreKept}
 use Rattle.cdcl_search.specs.States.{IsState}
 use Rattle.cdcl_search.specs.Learnings.{IsAsserting, AreSame, IsNoTautology, IsNew}
 use Rattle.cdcl_search.specs.declared.trail.Trail.{Trail}
@@ -35,22 +35,22 @@ false_place t k s h = rw flip-variable (s.placed k h)
 abbrev pub taught : Trail → ℕ → List ℕ → List ℕ
 taught t k lower = lower ++ flip (get_or t.literals.items k 0) ∷ []
 
-pub taught_covers : (t : Trail) (base k : ℕ) (m lower : List ℕ) → IsTrail t.values.items t.places.items t.literals.items t.count → k < t.count → base ≤ k → get_or m k 0 ≢ 0
-    → IsMarked t.values.items t.places.items base (length t.literals.items) m lower 1 → Covers t.values.items t.places.items m (taught t k lower)
-taught_covers t base k m lower s h b z i = record {
-  marked = λ l x. elim (Has-append lower (flip (get_or t.literals.items k 0) ∷ []) l x) [
-    | inl y ↦ record { value = (i.below l y).value; mark = i.lower_marked l y }
+pub taught_covers : (t : Trail) (base k : ℕ) (m lower kept : List ℕ) → IsTrail t.values.items t.places.items t.literals.items t.count → k < t.count → base ≤ k → get_or m k 0 ≢ 0
+    → IsMarked t.values.items t.places.items base (length t.literals.items) m lower 1 → AreKept t.places.items m lower kept → Covers t.values.items t.places.items m (taught t k kept)
+taught_covers t base k m lower kept s h b z i o = record {
+  marked = λ l x. elim (Has-append kept (flip (get_or t.literals.items k 0) ∷ []) l x) [
+    | inl y ↦ record { value = (i.below l (o.from_lower l y)).value; mark = o.marked l y }
     | inr y ↦ elim y [
       | inl e ↦ rw (← e) (record { value = false_value t k s h; mark = rw (false_place t k s h) z })
       | inr e ↦ absurd e
     ]
   ];
   covered = λ l x. elim (cases_lt (get_or t.places.items (l / 2) 0) base) [
-    | inl y ↦ Has-left lower (flip (get_or t.literals.items k 0) ∷ []) l (i.marked_lower l (record { value = x.value; place = y }) x.mark)
+    | inl y ↦ Has-left kept (flip (get_or t.literals.items k 0) ∷ []) l (o.all l (i.marked_lower l (record { value = x.value; place = y }) x.mark) x.mark)
     | inr y ↦
         let e : get_or t.places.items (l / 2) 0 ≡ k = only_mark _ _ base _ m lower k (get_or t.places.items (l / 2) 0) i b z y x.mark in
         let f : get_or t.literals.items k 0 ≡ flip l = false_at t.values.items t.places.items t.literals.items t.count l k s x.value e in
-        Has-right lower (flip (get_or t.literals.items k 0) ∷ []) l (inl (ap flip f ∙ flip-flip l))
+        Has-right kept (flip (get_or t.literals.items k 0) ∷ []) l (inl (ap flip f ∙ flip-flip l))
   ];
 }
 
@@ -101,15 +101,15 @@ taught_forces t v' base k m lower g f = record {
 }
 
 -- the steps of a conflict lead to the learned clause
-pub taught_traced : (store : List (List ℕ)) (t : Trail) (base k : ℕ) (a : Analysis) → IsState store t → IsExplained store t base a → a.counter ≡ 1 → IsAsserting t base k a.lower.items → get_or a.marks.items k 0 ≢ 0
-    → IsTraced store a.start a.steps.items (taught t k a.lower.items)
-taught_traced store t base k a s e n y z =
+pub taught_traced : (store : List (List ℕ)) (t : Trail) (base k : ℕ) (a : Analysis) (kept : List ℕ) → IsState store t → IsExplained store t base a → a.counter ≡ 1 → IsAsserting t base k kept → get_or a.marks.items k 0 ≢ 0
+    → AreKept t.places.items a.marks.items a.lower.items kept → IsTraced store a.start a.steps.items (taught t k kept)
+taught_traced store t base k a kept s e n y z o =
     let m : IsMarked t.values.items t.places.items base (length t.literals.items) a.marks.items a.lower.items 1 = rw (← n) e.marked in
-    let v = taught_covers t base k a.marks.items a.lower.items s.search.trail y.within y.after z m in
+    let v = taught_covers t base k a.marks.items a.lower.items kept s.search.trail y.within y.after z m o in
     record {
       begins = e.start;
       steps_lawful = e.lawful;
-      gives = covers_same t.values.items t.places.items a.marks.items (taught t k a.lower.items) (resolved store (get_or store a.start []) a.steps.items) v e.covers;
+      gives = covers_same t.values.items t.places.items a.marks.items (taught t k kept) (resolved store (get_or store a.start []) a.steps.items) v e.covers;
     }
 
 -- with no mark the steps have led to the empty clause

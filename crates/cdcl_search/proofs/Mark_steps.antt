@@ -1,12 +1,12 @@
 -- What marking and resolving do to the marks.
-use Rattle.std.proofs.Common.{ℕ, zero, suc, [], ◌∷◌, ◌++◌, ◌≡◌, ◌+◌, ◌/◌, ◌<◌, ◌≤◌, ◌≢◌, List, length, get_or, set, inl, inr, arith, refl, ap, sym, ◌∙◌, subst}
+use Rattle.std.proofs.Common.{ℕ, zero, suc, [], ◌∷◌, ◌++◌, ◌≡◌, ◌+◌, ◌/◌, ◌<◌, ◌≤◌, ◌≢◌, ◌↔◌, List, length, get_or, set, inl, inr, arith, refl, ap, sym, ◌∙◌, subst, IsTrue, Bool, true, false, not, nat_eq}
 use Rattle.std.proofs.Math.ListN.{length-set}
-use Rattle.std.proofs.lemmas.Bool.{cases_eq, cases_lt}
+use Rattle.std.proofs.lemmas.Bool.{cases_eq, cases_lt, false≢true, true≢false, true_from_ne_false, eqb-true}
 use Rattle.std.proofs.lemmas.List.{get_or-set_same, get_or-set_other, get_or_past}
 use Rattle.cdcl_search.specs.Literals.{flip, Has}
 use Rattle.cdcl_search.specs.Trails.{IsTrail, FalseBelow}
 use Rattle.cdcl_search.specs.Searches.{Forces}
-use Rattle.cdcl_search.specs.Marks.{ones, Covers, IsMarked, Grown, GrownTo, IsOneMore}
+use Rattle.cdcl_search.specs.Marks.{ones, Covers, IsMarked, Grown, GrownTo, IsOneMore, AreKept, AreKeptTo}
 use Rattle.cdcl_search.specs.Derivations.{resolvent, Clash}
 use Rattle.cdcl_search.proofs.Flips.{flip-flip, flip-variable, flip-other}
 use Rattle.cdcl_search.proofs.Members.{Has-at, Has-index, Has-left, Has-right, Has-append, Has-resolvent, resolvent-left, resolvent-right}
@@ -49,6 +49,17 @@ ones-before zero (x ∷ m) p y h = absurd (omega arith)
 ones-before (suc b) (x ∷ m) zero y h = refl
 ones-before (suc b) (x ∷ m) (suc p) y h = ones-before b m p y (omega arith)
 
+pub taken : (m : List ℕ) (k : ℕ) → get_or (set m k 0) k 0 ≡ 0
+taken [] k = refl
+taken (x ∷ m) zero = refl
+taken (x ∷ m) (suc k) = taken m k
+
+pub still : (m : List ℕ) (k p : ℕ) → get_or m p 0 ≡ 0 → get_or (set m k 0) p 0 ≡ 0
+still m k p h = elim (cases_eq p k) [
+  | inl e ↦ rw e (taken m k)
+  | inr d ↦ get_or-set_other m k p 0 0 d ∙ h
+]
+
 -- two false literals do not share a place
 pub same_place : (v w ls : List ℕ) (count a b : ℕ) → IsTrail v w ls count → get_or v a 0 ≡ 2 → get_or v b 0 ≡ 2 → get_or w (a / 2) 0 ≡ get_or w (b / 2) 0 → a ≡ b
 same_place v w ls count a b t h k e =
@@ -69,7 +80,6 @@ mark_last v w ls count base n m lower counter l k b h z =
     record {
       len = simp length-set k.len;
       below = k.below;
-      lower_marked = λ q x. let f : get_or w (q / 2) 0 ≢ get_or w (l / 2) 0 = λ e. omega (arith, e, (k.below q x).place) in rw get_or-set_other (k.lower_marked q x);
       marked_lower = λ q f x. let d : get_or w (q / 2) 0 ≢ get_or w (l / 2) 0 = λ e. omega (arith, e, f.place) in k.marked_lower q f (rw get_or-set_other at x);
       counts = omega (arith, k.counts, ones-set base m (get_or w (l / 2) 0) 0 h (omega (arith, k.len)) z);
     }
@@ -83,13 +93,6 @@ mark_lower v w ls count base n m lower counter l t k f b h z =
     record {
       len = simp length-set k.len;
       below = λ q x. elim (Has-append lower (l ∷ []) q x) [ inl y ↦ k.below q y | inr y ↦ elim y [ inl e ↦ rw (← e) (record { value = f; place = h }) | inr e ↦ absurd e ] ];
-      lower_marked = λ q x. elim (cases_eq (get_or w (q / 2) 0) (get_or w (l / 2) 0)) [
-        | inl e ↦ rw e (λ y. omega (arith, y, s))
-        | inr d ↦ rw (get_or-set_other m (get_or w (l / 2) 0) (get_or w (q / 2) 0) 1 0 d) (elim (Has-append lower (l ∷ []) q x) [
-          | inl y ↦ k.lower_marked q y
-          | inr y ↦ elim y [ inl e ↦ absurd (d (ap (λ i. get_or w (i / 2) 0) (sym e))) | inr e ↦ absurd e ]
-        ])
-      ];
       marked_lower = λ q g x. elim (cases_eq (get_or w (q / 2) 0) (get_or w (l / 2) 0)) [
         | inl e ↦ Has-right lower (l ∷ []) q (inl (same_place v w ls count l q t f g.value (sym e)))
         | inr d ↦ Has-left lower (l ∷ []) q (k.marked_lower q g (rw (get_or-set_other m (get_or w (l / 2) 0) (get_or w (q / 2) 0) 1 0 d) at x))
@@ -102,9 +105,17 @@ pub unmarked : (v w : List ℕ) (base n : ℕ) (m lower : List ℕ) (counter p :
 unmarked v w base n m lower counter p k h z = record {
   len = simp length-set k.len;
   below = k.below;
-  lower_marked = λ q x. let f : get_or w (q / 2) 0 ≢ p = λ e. omega (arith, e, (k.below q x).place) in rw get_or-set_other (k.lower_marked q x);
   marked_lower = λ q f x. let d : get_or w (q / 2) 0 ≢ p = λ e. omega (arith, e, f.place) in k.marked_lower q f (rw get_or-set_other at x);
   counts = omega (arith, k.counts, ones-clear base m p h z);
+}
+
+-- a mark in a level before is taken away
+pub thinned : (v w : List ℕ) (base n : ℕ) (m lower : List ℕ) (counter p : ℕ) → IsMarked v w base n m lower counter → p < base → IsMarked v w base n (set m p 0) lower counter
+thinned v w base n m lower counter p k h = record {
+  len = simp length-set k.len;
+  below = k.below;
+  marked_lower = λ q f x. k.marked_lower q f (λ e. x (still m p (get_or w (q / 2) 0) e));
+  counts = k.counts ∙ sym (ones-before base m p 0 h);
 }
 
 -- each literal that a clause does not force true is false
@@ -200,4 +211,51 @@ grown_all w m m' c skip g = record {
   keeps = g.keeps;
   adds = λ l h n. let r = Has-index c l h in rw (← r.2) (g.adds r.0 r.1 (λ q. n (sym r.2 ∙ q)));
   only = g.only;
+}
+
+not_false : (b : Bool) → not b ≡ false → b ≡ true
+not_false true e = refl
+not_false false e = absurd (true≢false e)
+
+-- the test whether a mark is there
+pub mark_test : (x : ℕ) → IsTrue (not (nat_eq x 0)) ↔ (x ≢ 0)
+mark_test x = (
+  (λ e z. absurd (false≢true (rw z at e))),
+  (λ n. true_from_ne_false (not (nat_eq x 0)) (λ e. n (eqb-true x 0 (not_false (nat_eq x 0) e)))),
+)
+
+pub kept_none : (w m lower : List ℕ) → AreKeptTo w m lower [] 0
+kept_none w m lower = record { from_lower = λ l h. absurd h; marked = λ l h. absurd h; all = λ j h. absurd (omega arith) }
+
+pub kept_more : (w m lower kept : List ℕ) (i : ℕ) → AreKeptTo w m lower kept i → i < length lower → get_or m (get_or w (get_or lower i 0 / 2) 0) 0 ≢ 0 → AreKeptTo w m lower (kept ++ get_or lower i 0 ∷ []) (i + 1)
+kept_more w m lower kept i k h z = record {
+  from_lower = λ l x. elim (Has-append kept (get_or lower i 0 ∷ []) l x) [
+    | inl y ↦ k.from_lower l y
+    | inr y ↦ elim y [ inl e ↦ subst (Has lower) e (Has-at lower i h) | inr e ↦ absurd e ]
+  ];
+  marked = λ l x. elim (Has-append kept (get_or lower i 0 ∷ []) l x) [
+    | inl y ↦ k.marked l y
+    | inr y ↦ elim y [ inl e ↦ subst (λ q. get_or m (get_or w (q / 2) 0) 0 ≢ 0) e z | inr e ↦ absurd e ]
+  ];
+  all = λ j b x. elim (cases_eq j i) [
+    | inl e ↦ rw e (Has-right kept (get_or lower i 0 ∷ []) (get_or lower i 0) (inl refl))
+    | inr d ↦ Has-left kept (get_or lower i 0 ∷ []) (get_or lower j 0) (k.all j (omega arith) x)
+  ];
+}
+
+pub kept_same : (w m lower kept : List ℕ) (i : ℕ) → AreKeptTo w m lower kept i → get_or m (get_or w (get_or lower i 0 / 2) 0) 0 ≡ 0 → AreKeptTo w m lower kept (i + 1)
+kept_same w m lower kept i k z = record {
+  from_lower = k.from_lower;
+  marked = k.marked;
+  all = λ j b x. elim (cases_eq j i) [
+    | inl e ↦ absurd (x (rw e z))
+    | inr d ↦ k.all j (omega arith) x
+  ];
+}
+
+pub kept_all : (w m lower kept : List ℕ) → AreKeptTo w m lower kept (length lower) → AreKept w m lower kept
+kept_all w m lower kept k = record {
+  from_lower = k.from_lower;
+  marked = k.marked;
+  all = λ l h z. let r = Has-index lower l h in subst (Has kept) r.2 (k.all r.0 r.1 (subst (λ q. get_or m (get_or w (q / 2) 0) 0 ≢ 0) (sym r.2) z));
 }

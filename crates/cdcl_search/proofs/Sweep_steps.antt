@@ -1,24 +1,13 @@
 -- How the marks of a conflict are taken away.
-use Rattle.std.proofs.Common.{ℕ, zero, suc, [], ◌∷◌, ◌≡◌, ◌+◌, ◌/◌, ◌<◌, ◌≤◌, ◌≢◌, List, length, get_or, set, inl, inr, arith, refl, ap, sym, ◌∙◌}
+use Rattle.std.proofs.Common.{ℕ, ◌≡◌, ◌+◌, ◌/◌, ◌<◌, ◌≤◌, ◌≢◌, List, length, get_or, set, inl, inr, arith, ap, sym, ◌∙◌}
 use Rattle.std.proofs.lemmas.Bool.{cases_eq, cases_lt}
-use Rattle.std.proofs.lemmas.List.{get_or-set_other}
 use Rattle.cdcl_search.specs.Literals.{flip}
 use Rattle.cdcl_search.specs.Trails.{IsTrail, FalseBelow}
 use Rattle.cdcl_search.specs.Marks.{IsMarked, AreClear, IsSwept}
 use Rattle.cdcl_search.proofs.Flips.{flip-variable}
 use Rattle.cdcl_search.proofs.Members.{Has-index}
+use Rattle.cdcl_search.proofs.Mark_steps.{taken, still}
 use Rattle.cdcl_search.proofs.Learn_steps.{only_mark}
-
-taken : (m : List ℕ) (k : ℕ) → get_or (set m k 0) k 0 ≡ 0
-taken [] k = refl
-taken (x ∷ m) zero = refl
-taken (x ∷ m) (suc k) = taken m k
-
-still : (m : List ℕ) (k p : ℕ) → get_or m p 0 ≡ 0 → get_or (set m k 0) p 0 ≡ 0
-still m k p h = elim (cases_eq p k) [
-  | inl e ↦ rw e (taken m k)
-  | inr d ↦ get_or-set_other m k p 0 0 d ∙ h
-]
 
 pub swept_more : (w m m1 lower : List ℕ) (i : ℕ) → IsSwept w m m1 lower i → IsSwept w m (set m1 (get_or w (get_or lower i 0 / 2) 0) 0) lower (i + 1)
 swept_more w m m1 lower i s = record {

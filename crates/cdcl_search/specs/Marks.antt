@@ -24,11 +24,10 @@ pub record Covers (v w m c : List ℕ) : Type 0 where
   pub marked : (l : ℕ) → Has c l → Marked v w m l
   pub covered : (l : ℕ) → Marked v w m l → Has c l
 
--- `lower` lists the marked literals of the levels before the last one, and `counter` counts those of the last one
+-- `lower` lists literals of the levels before the last one, among them the marked ones, and `counter` counts the marks of the last one
 pub record IsMarked (v w : List ℕ) (base n : ℕ) (m lower : List ℕ) (counter : ℕ) : Type 0 where
   pub len : length m ≡ n
   pub below : (l : ℕ) → Has lower l → FalseBelow v w l base
-  pub lower_marked : (l : ℕ) → Has lower l → get_or m (get_or w (l / 2) 0) 0 ≢ 0
   pub marked_lower : (l : ℕ) → FalseBelow v w l base → get_or m (get_or w (l / 2) 0) 0 ≢ 0 → Has lower l
   pub counts : counter ≡ ones base m
 
@@ -54,3 +53,15 @@ pub record GrownTo (w m m' c : List ℕ) (skip i : ℕ) : Type 0 where
 pub record IsSwept (w m m' lower : List ℕ) (i : ℕ) : Type 0 where
   pub gone : (j : ℕ) → j < i → get_or m' (get_or w (get_or lower j 0 / 2) 0) 0 ≡ 0
   pub only : (p : ℕ) → get_or m' p 0 ≢ 0 → get_or m p 0 ≢ 0
+
+-- the literals of the list that have a mark
+pub record AreKept (w m lower kept : List ℕ) : Type 0 where
+  pub from_lower : (l : ℕ) → Has kept l → Has lower l
+  pub marked : (l : ℕ) → Has kept l → get_or m (get_or w (l / 2) 0) 0 ≢ 0
+  pub all : (l : ℕ) → Has lower l → get_or m (get_or w (l / 2) 0) 0 ≢ 0 → Has kept l
+
+-- the same, of the first i literals of the list
+pub record AreKeptTo (w m lower kept : List ℕ) (i : ℕ) : Type 0 where
+  pub from_lower : (l : ℕ) → Has kept l → Has lower l
+  pub marked : (l : ℕ) → Has kept l → get_or m (get_or w (l / 2) 0) 0 ≢ 0
+  pub all : (j : ℕ) → j < i → get_or m (get_or w (get_or lower j 0 / 2) 0) 0 ≢ 0 → Has kept (get_or lower j 0)

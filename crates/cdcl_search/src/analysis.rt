@@ -1,9 +1,9 @@
 //! The analysis of a conflict: resolution back along the trail to the first unique implication point.
-ghost use Rattle.std.specs.Prelude.{ℕ, ◌≡◌, ◌≢◌, ◌+◌, ◌*◌, ◌/◌, ◌<◌, ◌≤◌, ◌^◌, [], ◌∷◌, ◌++◌, length, get_or, IfOk, IsTrue};
+ghost use Rattle.std.specs.Prelude.{ℕ, ◌≡◌, ◌≢◌, ◌+◌, ◌*◌, ◌/◌, ◌<◌, ◌≤◌, ◌^◌, [], ◌∷◌, ◌++◌, length, get_or, IfOk, IsTrue, ◌↔◌};
 ghost use Rattle.cdcl_search.specs.Literals.{flip, Has};
 ghost use Rattle.cdcl_search.specs.Learnings.{IsAsserting};
-ghost use Rattle.cdcl_search.specs.Trails.{IsTrail};
-ghost use Rattle.cdcl_search.specs.Marks.{ones, IsMarked, IsOneMore, Grown, AreClear, IsSwept};
+ghost use Rattle.cdcl_search.specs.Trails.{IsTrail, FalseBelow};
+ghost use Rattle.cdcl_search.specs.Marks.{ones, IsMarked, IsOneMore, Grown, AreClear, IsSwept, AreKept};
 ghost use Rattle.cdcl_search.specs.States.{IsState, IsFalse};
 ghost use Rattle.cdcl_search.specs.Explanations.{IsExplained, IsBase, AreMarksBelow};
 
@@ -207,6 +207,100 @@ impl Analysis {
         Ok(top)
     }
 
+    /// Whether there is a mark at the place of a false literal.
+    fn has_mark(&self, trail: &Trail, literal: u32) -> bool
+        requires trail { IsTrail trail.now.values.items trail.now.places.items trail.now.literals.items trail.now.count }
+        requires is_false { get_or trail.now.values.items literal 0 ≡ 2 }
+        requires size { length self.now.marks.items ≡ length trail.now.literals.items }
+        ensures { IsTrue result ↔ (get_or self.now.marks.items (get_or trail.now.places.items (literal / 2) 0) 0 ≢ 0) }
+    {
+        let place = trail.places[(literal / 2) as usize];
+        self.marks[place as usize] != 0
+    }
+
+    /// Whether each literal of a clause but the one that it forced has a mark.
+    fn are_marked(&self, trail: &Trail, clause: &[u32], forced: u32) -> bool
+        requires trail { IsTrail trail.now.values.items trail.now.places.items trail.now.literals.items trail.now.count }
+        requires are_false { (j : ℕ) → j < length clause.now → get_or clause.now j 0 ≢ forced → get_or trail.now.values.items (get_or clause.now j 0) 0 ≡ 2 }
+        requires size { length self.now.marks.items ≡ length trail.now.literals.items }
+        ensures { IsTrue result → (l : ℕ) → Has clause.now l → l ≢ forced → get_or self.now.marks.items (get_or trail.now.places.items (l / 2) 0) 0 ≢ 0 }
+    {
+        for literal in clause {
+            if *literal != forced && !self.has_mark(trail, *literal) {
+                return false;
+            }
+        }
+        true
+    }
+
+    /// Leaves out the literal at a place of the levels before, if it has a reason, whose other literals are marked.
+    fn leave_out(
+        &mut self,
+        trail: &Trail,
+        arena: &Arena,
+        at: usize,
+        base: usize,
+    ) -> Result<(), AllocError>
+        requires state { IsState arena.now trail.now }
+        requires explained { IsExplained arena.now trail.now base self.old }
+        requires within { at < trail.now.count }
+        requires before { at < base }
+        ensures explained { IfOk result (λ _. IsExplained arena.now trail.now base self.new) }
+        ensures marks { IfOk result (λ _. (p : ℕ) → get_or self.old.marks.items p 0 ≡ 0 → get_or self.new.marks.items p 0 ≡ 0) }
+        ensures counter { IfOk result (λ _. self.new.counter ≡ self.old.counter) }
+        ensures start { self.new.start ≡ self.old.start }
+        ensures lower { self.new.lower ≡ self.old.lower }
+        ensures size { length self.new.marks.items ≡ length self.old.marks.items }
+    {
+        let forced = trail.literals[at];
+        let reason = trail.reasons[(forced / 2) as usize];
+        if self.marks[at] == 0 || reason == u32::MAX {
+            return Ok(());
+        }
+        if !self.are_marked(trail, arena.clause(reason as usize), forced) {
+            return Ok(());
+        }
+        self.steps.push(Step {
+            clause: reason,
+            pivot: forced / 2,
+        })?;
+        self.marks[at] = 0;
+        Ok(())
+    }
+
+    /// Leaves out literals of the levels before that the others imply: each is resolved with its reason.
+    pub fn shorten(&mut self, trail: &Trail, arena: &Arena, base: usize) -> Result<(), AllocError>
+        requires state { IsState arena.now trail.now }
+        requires explained { IsExplained arena.now trail.now base self.old }
+        ensures explained { IfOk result (λ _. IsExplained arena.now trail.now base self.new) }
+        ensures marks { IfOk result (λ _. (p : ℕ) → get_or self.old.marks.items p 0 ≡ 0 → get_or self.new.marks.items p 0 ≡ 0) }
+        ensures counter { IfOk result (λ _. self.new.counter ≡ self.old.counter) }
+        ensures start { self.new.start ≡ self.old.start }
+        ensures size { length self.new.marks.items ≡ length self.old.marks.items }
+    {
+        for index in 0..self.lower.len() {
+            let at = trail.places[(self.lower[index] / 2) as usize] as usize;
+            self.leave_out(trail, arena, at, base)?;
+        }
+        Ok(())
+    }
+
+    /// The literals of the levels before that still have a mark.
+    pub fn kept(&self, alloc: Global, trail: &Trail) -> Result<Vec<u32>, AllocError>
+        requires trail { IsTrail trail.now.values.items trail.now.places.items trail.now.literals.items trail.now.count }
+        requires are_false { (l : ℕ) → Has self.now.lower.items l → get_or trail.now.values.items l 0 ≡ 2 }
+        requires size { length self.now.marks.items ≡ length trail.now.literals.items }
+        ensures { IfOk result (λ kept. AreKept trail.now.places.items self.now.marks.items self.now.lower.items kept.items) }
+    {
+        let mut kept = Vec::new(alloc);
+        for literal in self.lower.as_slice() {
+            if self.has_mark(trail, *literal) {
+                kept.push(*literal)?;
+            }
+        }
+        Ok(kept)
+    }
+
     /// The place of the one mark that the last level keeps.
     fn last_mark(&self, top: usize, base: usize) -> usize
         requires top { AreMarksBelow self.now.marks.items top }
@@ -238,26 +332,28 @@ impl Analysis {
         unmark(&mut self.marks, trail, &self.lower);
     }
 
-    /// The clause that the marks stand for: the literals of the levels before, and the one of the last level.
+    /// The clause of these literals of the levels before and the one of the last level, whose place comes with it.
     pub fn clause(
         &self,
         alloc: Global,
         trail: &Trail,
+        lower: &[u32],
         top: usize,
         base: usize,
     ) -> Result<(usize, Vec<u32>), AllocError>
         requires state { IsTrail trail.now.values.items trail.now.places.items trail.now.literals.items trail.now.count }
         requires few { 2 * length trail.now.literals.items < 2 ^ 32 }
         requires marked { IsMarked trail.now.values.items trail.now.places.items base (length trail.now.literals.items) self.now.marks.items self.now.lower.items 1 }
+        requires below { (l : ℕ) → Has lower.now l → FalseBelow trail.now.values.items trail.now.places.items l base }
         requires top { AreMarksBelow self.now.marks.items top }
         requires within { top ≤ trail.now.count }
-        ensures asserting { IfOk result (λ r. IsAsserting trail.now base r.0 self.now.lower.items) }
+        ensures asserting { IfOk result (λ r. IsAsserting trail.now base r.0 lower.now) }
         ensures mark { IfOk result (λ r. get_or self.now.marks.items r.0 0 ≢ 0) }
-        ensures clause { IfOk result (λ r. r.1.items ≡ self.now.lower.items ++ flip (get_or trail.now.literals.items r.0 0) ∷ []) }
+        ensures clause { IfOk result (λ r. r.1.items ≡ lower.now ++ flip (get_or trail.now.literals.items r.0 0) ∷ []) }
     {
         let place = self.last_mark(top, base);
         let mut clause = Vec::new(alloc);
-        clause.extend_from_slice(&self.lower)?;
+        clause.extend_from_slice(lower)?;
         clause.push(flipped(trail.literals[place]))?;
         Ok((place, clause))
     }

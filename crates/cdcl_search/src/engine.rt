@@ -80,6 +80,7 @@ impl Engine {
             .analysis
             .explain(&self.trail, &self.arena, at, base, 1, is_clear)?;
         self.order.raise(&self.analysis);
+        self.analysis.shorten(&self.trail, &self.arena, base)?;
         self.hints.push()?;
         teach(
             self.alloc,

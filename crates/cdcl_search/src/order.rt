@@ -186,7 +186,7 @@ impl Order {
         for literal in &analysis.lower {
             self.bump(*literal / 2);
         }
-        self.step = self.step.saturating_add(self.step / 16);
+        self.step = self.step.saturating_add(self.step / 32);
         if self.step > LIMIT {
             self.scale();
         }

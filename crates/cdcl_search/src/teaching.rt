@@ -47,7 +47,8 @@ pub fn teach(
     ensures marks { length analysis.new.marks.items ≡ length analysis.old.marks.items }
     ensures clear { IfOk result (λ _. AreClear analysis.new.marks.items) }
 {
-    let (place, clause) = analysis.clause(alloc, trail, top, base)?;
+    let kept = analysis.kept(alloc, trail)?;
+    let (place, clause) = analysis.clause(alloc, trail, &kept, top, base)?;
     let result = ascending(alloc, &clause)?;
     let steps = List::from_slice(alloc, &analysis.steps)?;
     chains.push(Chain {
@@ -56,16 +57,7 @@ pub fn teach(
         result,
     })?;
     analysis.sweep(trail, base, place);
-    match learn(
-        trail,
-        arena,
-        watches,
-        order,
-        &clause,
-        &analysis.lower,
-        place,
-        base,
-    ) {
+    match learn(trail, arena, watches, order, &clause, &kept, place, base) {
         Ok(()) => Ok(()),
         Err(_) => {
             let _ = chains.pop();

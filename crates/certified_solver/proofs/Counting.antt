@@ -1,5 +1,5 @@
 -- Over v variables there are at most 3 to the power v clauses that are no tautologies.
-use Rattle.std.proofs.Common.{ℕ, zero, suc, Bool, true, false, cond, eqb, ◌||◌, [], ◌∷◌, ◌++◌, ◌≡◌, ◌≢◌, ◌+◌, ◌-◌, ◌*◌, ◌/◌, ◌^◌, ◌<◌, ◌≤◌, ◌⊎◌, ◌==◌, List, All, length, get_or, take, map, inl, inr, arith, refl, ap, sym, ◌∙◌, subst, get_or-append-add, get_or-take, length-append, length-take}
+use Rattle.std.proofs.Common.{ℕ, zero, suc, Bool, true, false, cond, eqb, ◌||◌, [], ◌∷◌, ◌≡◌, ◌≢◌, ◌+◌, ◌-◌, ◌*◌, ◌/◌, ◌^◌, ◌<◌, ◌≤◌, ◌⊎◌, ◌==◌, List, All, length, get_or, take, inl, inr, arith, refl, ap, sym, ◌∙◌, get_or-append-add, get_or-take, length-append, length-take}
 use Rattle.std.proofs.lemmas.Bool.{cases_eq, cases_lt, false≢true, eqb-true, eqb-false, eq-eqb}
 use Rattle.std.proofs.lemmas.Grind.{pow_more}
 use Rattle.std.proofs.lemmas.List.{length-map, take-map, get_or-map}
@@ -10,7 +10,7 @@ use Rattle.clause_store.specs.Literals.{LiteralSet, literals_of, HasVariablesBel
 use Rattle.clause_store.specs.Store.{clause_at}
 use Rattle.clause_store.specs.Resolution.{known_clauses, IsLawful}
 use Rattle.proof_checker.specs.Checking.{IsChainWithin}
-use Rattle.cdcl_search.specs.Progress.{IsTautology, IsNewClause, results_of, AreNewResults, HaveSameLiterals}
+use Rattle.cdcl_search.specs.Progress.{results_of, AreNewResults}
 use Rattle.certified_solver.proofs.Within.{IsBelow, clause_below, chains_within}
 
 abbrev avoiding : (ℕ → ℕ) → ℕ → ℕ → ℕ → ℕ

@@ -1,5 +1,5 @@
 -- What the ends of a search mean for the clauses that it was opened with.
-use Rattle.std.proofs.Common.{ℕ, ◌≡◌, ◌+◌, ◌<◌, ◌≤◌, ◌^◌, [], List, All, length, arith, ap, sym, ◌∙◌, subst}
+use Rattle.std.proofs.Common.{ℕ, ◌≡◌, ◌≤◌, ◌^◌, [], List, All, length, arith, ap, sym, ◌∙◌, subst}
 use Rattle.clause_store.specs.declared.clause.Literal.{Literal}
 use Rattle.clause_store.specs.declared.derivation.Chain.{Chain}
 use Rattle.clause_store.specs.Literals.{HasVariablesBelow}

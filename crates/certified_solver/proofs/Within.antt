@@ -1,5 +1,5 @@
 -- A lawful chain speaks of no variable that the given clauses don't have.
-use Rattle.std.proofs.Common.{ℕ, zero, suc, Bool, true, false, not, [], ◌∷◌, ◌++◌, ◌≡◌, ◌+◌, ◌*◌, ◌/◌, ◌<◌, ◌⊎◌, ◌||◌, ◌&&◌, ◌==◌, List, All, length, get_or, inl, inr, arith, refl, ap, sym, ◌∙◌, subst}
+use Rattle.std.proofs.Common.{ℕ, Bool, true, false, not, [], ◌∷◌, ◌++◌, ◌≡◌, ◌+◌, ◌*◌, ◌/◌, ◌<◌, ◌⊎◌, ◌||◌, ◌&&◌, ◌==◌, List, All, get_or, inl, inr, arith, refl, ◌∙◌}
 use Rattle.std.proofs.lemmas.Bool.{false≢true}
 use Rattle.std.proofs.lemmas.Bool.Decides.{nat_tests}
 use Rattle.std.proofs.lemmas.List.Folds.{list_any_at, Any-from_list_any}

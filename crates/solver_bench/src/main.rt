@@ -1,6 +1,6 @@
 //! Times the solver. Without an argument the questions are small, and what is printed is always the same; with the argument
-//! `time` they are large, and the times come too; with `clauses` and the number of a large question its clauses are
-//! printed, in the form that other solvers read.
+//! `time` they are large, and the times come too; with `clauses` the clauses of the large ones are printed, in the form that
+//! other solvers read. A number behind the word takes only that large question.
 #![tactic(auto)]
 
 mod dimacs;
@@ -10,7 +10,7 @@ mod measure;
 mod pigeons;
 mod question;
 
-use anyhow::Result;
+use anyhow::{Result, ensure};
 use dimacs::print_clauses;
 use measure::{Outcome, measure};
 use question::Question;
@@ -63,7 +63,7 @@ const LARGE: [Question; 11] = [
 ];
 
 /// Asks all questions, under a guide with a name.
-fn ask_all(
+fn ask_under(
     rt: &HostRuntime,
     name: &str,
     guide: &Guide,
@@ -88,31 +88,41 @@ fn print_times(rt: &HostRuntime, outcome: &Outcome) -> Result<()> {
     Ok(())
 }
 
-fn main(rt: HostRuntime) -> Result<()> {
-    let mut words = env::args(&rt)?.skip(1);
-    let first_word = words.next();
-    let alloc = rt.alloc();
-    if let Some(word) = &first_word
-        && word.as_str() == "clauses"
-    {
-        return print_question(&rt, words.next());
-    }
-    let is_timed = first_word.is_some();
-    let questions: &[Question] = if is_timed { &LARGE } else { &SMALL };
-    let first = Guide::new(Box::new(alloc, |_seed: u64, _turn: u64, _n: u32| 0)?);
-    ask_all(&rt, "first", &first, questions, is_timed)?;
-    let last = Guide::new(Box::new(alloc, |_seed: u64, _turn: u64, n: u32| n.saturating_sub(1))?);
-    ask_all(&rt, "last", &last, questions, is_timed)
+/// The large questions, or only the one whose number the word is, from 0 on.
+fn large(word: Option<String>) -> Result<&'static [Question]> {
+    let Some(word) = word else {
+        return Ok(&LARGE);
+    };
+    let number = word.parse::<usize>()?;
+    ensure!(number < LARGE.len(), "no such question");
+    Ok(&LARGE[number..=number])
 }
 
-/// Prints the clauses of the large question with a number, from 0 on.
-fn print_question(rt: &HostRuntime, word: Option<String>) -> Result<()> {
-    let number = match word {
-        Some(word) => word.parse::<usize>()?,
-        None => 0,
+fn main(rt: HostRuntime) -> Result<()> {
+    let mut words = env::args(&rt)?.skip(1);
+    let Some(word) = words.next() else {
+        return ask(&rt, &SMALL, false);
     };
-    if number < LARGE.len() {
-        print_clauses(rt, &LARGE[number].clauses(rt.alloc())?)?;
+    let questions = large(words.next())?;
+    if word.as_str() == "clauses" {
+        return print_all(&rt, questions);
+    }
+    ask(&rt, questions, true)
+}
+
+/// Asks all questions, under a guide that answers 0 and one that answers the last number.
+fn ask(rt: &HostRuntime, questions: &[Question], is_timed: bool) -> Result<()> {
+    let alloc = rt.alloc();
+    let first = Guide::new(Box::new(alloc, |_seed: u64, _turn: u64, _n: u32| 0)?);
+    ask_under(rt, "first", &first, questions, is_timed)?;
+    let last = Guide::new(Box::new(alloc, |_seed: u64, _turn: u64, n: u32| n.saturating_sub(1))?);
+    ask_under(rt, "last", &last, questions, is_timed)
+}
+
+/// Prints the clauses of each question.
+fn print_all(rt: &HostRuntime, questions: &[Question]) -> Result<()> {
+    for question in questions {
+        print_clauses(rt, &question.clauses(rt.alloc())?)?;
     }
     Ok(())
 }

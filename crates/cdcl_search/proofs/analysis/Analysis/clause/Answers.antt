@@ -17,6 +17,5 @@ returns-clause-clause c =
     let b : c.last_mark-place.result < c.args.trail.now.count = omega (arith, c.last_mark-place.ensures.below, c.requires.within) in
     let n = c.requires.state.open_count in
     let l : c.index.result.now ≡ get_or c.args.trail.now.literals.items c.last_mark-place.result 0 = grind (arith, common_steps) in
-    let d : c.deref.result.now ≡ c.args.self.now.lower.items = c.deref.ensures.value in
     let f : c.flipped.result ≡ flip (get_or c.args.trail.now.literals.items c.last_mark-place.result 0) = c.flipped.ensures ∙ ap flip l in
-    rw (c.in_ok-push.ensures.items, f, c.in_ok-extend_from_slice.ensures.items, c.new-clause.ensures.items, d) refl
+    rw (c.in_ok-push.ensures.items, f, c.in_ok-extend_from_slice.ensures.items, c.new-clause.ensures.items) refl
