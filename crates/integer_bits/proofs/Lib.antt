@@ -1,0 +1,13 @@
+pub mod Congruent
+pub mod Resizing
+pub mod Ripple
+pub mod Widening
+pub mod Adding
+pub mod Turning
+pub mod BitTests
+pub mod Spelling
+pub mod Masks
+pub mod Trees
+pub mod Scaling
+pub mod Shifting
+pub mod Growing
