@@ -1,0 +1,10 @@
+pub mod Among
+pub mod Depths
+pub mod FirstWays
+pub mod Heights
+pub mod Meanings
+pub mod Members
+pub mod Numbers
+pub mod Rows
+pub mod Straight
+pub mod WayTaken
