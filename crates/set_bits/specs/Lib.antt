@@ -1,0 +1,6 @@
+pub mod Counts
+pub mod Fitting
+pub mod Merging
+pub mod Reaching
+pub mod Sets
+pub mod Showing
