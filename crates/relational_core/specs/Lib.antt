@@ -1,0 +1,4 @@
+pub mod Choices
+pub mod Conditions
+pub mod Lowered
+pub mod Numberless
