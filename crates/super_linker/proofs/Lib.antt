@@ -1,0 +1,4 @@
+pub mod Falling
+pub mod Linked
+pub mod Names
+pub mod Refused
