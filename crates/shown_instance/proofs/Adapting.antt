@@ -1,8 +1,8 @@
 -- From equations between lists, and tests of lists, to facts of their items.
-use Rattle.std.proofs.Common.{◌≡◌, ℕ, zero, suc, ◌+◌, ◌<◌, Bool, true, false, cond, ◌&&◌, ◌||◌, List, [], ◌∷◌, length, map, get_or, Option, Some, None, refl, sym, ap, ◌∙◌, subst, arith}
+use Rattle.std.proofs.Common.{◌≡◌, ℕ, zero, suc, ◌<◌, Bool, true, false, ◌||◌, List, [], ◌∷◌, length, map, get_or, Option, Some, None, refl, sym, ap, ◌∙◌, arith}
 use Rattle.std.specs.Prelude.{slice_get, is_some}
-use Rattle.std.specs.Option.{option_map, option_map_or, IfSome}
-use Rattle.std.specs.List.{list_all, list_any, All, Contains}
+use Rattle.std.specs.Option.{option_map, option_map_or}
+use Rattle.std.specs.List.{list_all, list_any, All}
 use Rattle.std.proofs.lemmas.Bool.{true≢false}
 use Rattle.std.proofs.lemmas.List.{get_or-map}
 use Rattle.std.proofs.lemmas.Option.{slice_get-map}
@@ -53,6 +53,7 @@ test_at f g xs ys i y e at =
   where
     both_sides : option_map f (slice_get xs i) ≡ Some (g y)
     both_sides = sym (slice_get-map f xs i) ∙ ap (λ zs. slice_get zs i) e ∙ slice_get-map g ys i ∙ ap (option_map g) at
+
     by : (o : Option _) → slice_get xs i ≡ o → option_map_or f (slice_get xs i) false ≡ g y
     by None t = absurd (true≢false (sym (ap is_some (sym (ap (option_map f) t) ∙ both_sides))))
     by (Some x) t = ap (λ o. option_map_or f o false) t ∙ ap (λ o. option_map_or (λ b. b) o false) (sym (ap (option_map f) t) ∙ both_sides)

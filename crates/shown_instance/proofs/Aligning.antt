@@ -1,5 +1,5 @@
 -- Ordered entries side by side with a longer ordered list of nodes.
-use Rattle.std.proofs.Common.{◌≡◌, Bool, true, false, cond, ◌&&◌, ◌||◌, List, [], ◌∷◌, length, map, Option, Some, None, refl, sym, ap, ◌∙◌}
+use Rattle.std.proofs.Common.{◌≡◌, Bool, true, false, cond, ◌||◌, List, [], ◌∷◌, map, Some, None, refl, sym, ap, ◌∙◌}
 use Rattle.std.specs.List.{list_all}
 use Rattle.std.proofs.lemmas.Bool.{true≢false}
 use Rattle.clf_tree.specs.declared.model.Clafer.{Clafer}
@@ -11,7 +11,7 @@ use Rattle.clf_tree.specs.Nodes.{same_node, is_before, has_node, entry_of, is_or
 use Rattle.set_bits.specs.declared.layout.Layout.{Layout}
 use Rattle.set_bits.specs.Fitting.{Fits}
 use Rattle.shown_instance.specs.Packed.{aligned}
-use Rattle.shown_instance.proofs.Order.{both, together, same_nodes, same_itself, before_differs, after_differs}
+use Rattle.shown_instance.proofs.Order.{both, together, same_nodes, same_itself, after_differs}
 use Rattle.shown_instance.proofs.Merging.{later_in, before_member, before_all, not_there}
 use Rattle.shown_instance.proofs.Fitted.{slots_ascend, entries_inside}
 
@@ -37,10 +37,13 @@ found (e ∷ es) (x ∷ xs) a o h = by (same_node x e.node) refl (found es xs (b
   where
     p : (list_all (is_before x) xs ≡ true) × (each_two is_before xs ≡ true)
     p = both (list_all (is_before x) xs) (each_two is_before xs) a
+
     q : (list_all (λ (y : Entry). is_before e.node y.node) es ≡ true) × (is_ordered es ≡ true)
     q = both (list_all (λ (y : Entry). is_before e.node y.node) es) (is_ordered es) o
+
     r : (has_node (x ∷ xs) e.node ≡ true) × (list_all (λ (y : Entry). has_node (x ∷ xs) y.node) es ≡ true)
     r = both (has_node (x ∷ xs) e.node) (list_all (λ (y : Entry). has_node (x ∷ xs) y.node) es) h
+
     by : (b : Bool) → same_node x e.node ≡ b → (is_ordered es ≡ true → list_all (λ (y : Entry). has_node xs y.node) es ≡ true → aligned xs es ≡ map (entry_of es) xs)
         → (list_all (λ (y : Entry). has_node xs y.node) (e ∷ es) ≡ true → aligned xs (e ∷ es) ≡ map (entry_of (e ∷ es)) xs)
         → cond (same_node x e.node) (Some e ∷ aligned xs es) (None ∷ aligned xs (e ∷ es)) ≡ cond (same_node x e.node) (Some e) (entry_of es x) ∷ map (entry_of (e ∷ es)) xs

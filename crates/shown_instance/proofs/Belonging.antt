@@ -1,6 +1,6 @@
 -- An instance within the scopes, a tree and of the right shape has only facts for which a layout that fits has bits.
-use Rattle.std.proofs.Common.{◌≡◌, ◌≢◌, ℕ, zero, suc, ◌+◌, ◌<◌, ◌≤◌, Bool, true, false, cond, ◌&&◌, ◌||◌, List, [], ◌∷◌, ◌++◌, length, map, get_or, Option, Some, None, refl, sym, ap, ◌∙◌, subst, arith, ◌⊎◌, inl, inr}
-use Rattle.std.specs.Prelude.{slice_get, ◌==◌, nat_lt, is_some, is_none, not}
+use Rattle.std.proofs.Common.{◌≡◌, ◌≢◌, ℕ, zero, suc, ◌+◌, ◌<◌, ◌≤◌, Bool, true, false, cond, ◌&&◌, ◌||◌, List, [], ◌∷◌, ◌++◌, length, map, get_or, Option, Some, None, refl, sym, ap, ◌∙◌, arith, ◌⊎◌, inl, inr}
+use Rattle.std.specs.Prelude.{◌==◌, nat_lt, is_some, is_none}
 use Rattle.std.specs.Option.{option_map_or, option_and_then, option_to_list}
 use Rattle.std.specs.List.{filter, flat_map, list_all, list_any, All, range_with_len}
 use Rattle.std.proofs.lemmas.Bool.{true≢false}
@@ -17,15 +17,15 @@ use Rattle.clf_tree.specs.declared.instance.Entry.{Entry}
 use Rattle.clf_tree.specs.declared.scopes.Scopes.{Scopes}
 use Rattle.clf_tree.specs.Lists.{numbers_below, has}
 use Rattle.clf_tree.specs.Hierarchy.{is_concrete, is_a, owners, parent_of, target_of, reference_of, refers_to_int, concrete_below}
-use Rattle.clf_tree.specs.Nodes.{same_node, has_node, has_some, nodes_of, named_by, node_in, target_node, scope_of, is_within, has_its_parent, fits_range}
-use Rattle.clf_tree.specs.Shape.{refers, meets_reference, instances}
+use Rattle.clf_tree.specs.Nodes.{same_node, has_node, has_some, nodes_of, named_by, node_in, target_node, scope_of, has_its_parent, fits_range}
+use Rattle.clf_tree.specs.Shape.{refers, meets_reference}
 use Rattle.set_bits.specs.declared.layout.Edge.{Edge}
 use Rattle.set_bits.specs.declared.layout.SlotBits.{SlotBits}
 use Rattle.set_bits.specs.Fitting.{slot, slot_clafer, ends, ends_from, all_ends, referred, integer_slots}
 use Rattle.set_bits.specs.Showing.{has_edge, has_value_bits, target_integer, integer_in}
 use Rattle.shown_instance.proofs.Order.{both, together, same_nodes, same_itself}
 use Rattle.shown_instance.proofs.Adapting.{any_passes}
-use Rattle.shown_instance.proofs.Fitted.{node_inside, concrete_within, or_right}
+use Rattle.shown_instance.proofs.Fitted.{concrete_within, or_right}
 
 -- ---- lists
 
@@ -88,6 +88,7 @@ pair_from t i j a (suc m) low high pass = by (eqb_tells a j) (t a) refl (pair_fr
   where
     others : Bool
     others = list_any (is_pair i j) (map (λ k. (i, k)) (filter t (range_with_len (a + 1) m)))
+
     by : ((a == j) ≡ true × a ≡ j) ⊎ ((a == j) ≡ false × a ≢ j) → (b : Bool) → t a ≡ b → (a + 1 ≤ j → j < (a + 1) + m → t j ≡ true → others ≡ true)
         → list_any (is_pair i j) (map (λ k. (i, k)) (cond (t a) (a ∷ filter t (range_with_len (a + 1) m)) (filter t (range_with_len (a + 1) m)))) ≡ true
     by (inl s) true e rest = rw e (ap (λ b. b || others) (this_pair i j a s.1))
@@ -104,10 +105,13 @@ pair_all near slots i j a (suc m) low high l h =
   where
     mine : ℕ → Bool
     mine k = list_any (is_pair i j) (ends_from (near (slot_clafer slots k)) slots k (length slots))
+
     others : Bool
     others = list_any (is_pair i j) (flat_map (λ k. ends_from (near (slot_clafer slots k)) slots k (length slots)) (range_with_len (a + 1) m))
+
     here : mine i ≡ true
     here = pair_from (λ k. has (near (slot_clafer slots i)) (slot_clafer slots k)) i j 0 (length slots) (omega arith) (omega (arith, l)) h
+
     by : ((a == i) ≡ true × a ≡ i) ⊎ ((a == i) ≡ false × a ≢ i)
         → (a + 1 ≤ i → i < (a + 1) + m → j < length slots → has (near (slot_clafer slots i)) (slot_clafer slots j) ≡ true → others ≡ true) → (mine a || others) ≡ true
     by (inl s) rest = ap (λ b. b || others) (ap mine s.1 ∙ here)
@@ -156,6 +160,7 @@ filter_has t (x ∷ xs) n h = by (t x) refl (filter_has t xs n)
       where
         there : (same_node n x || has_node (filter t xs) n) ≡ true
         there = sym (ap (λ b. has_node (cond b (x ∷ filter t xs) (filter t xs)) n) e) ∙ h
+
         split : (b : Bool) → same_node n x ≡ b → (has_node (filter t xs) n ≡ true → t n ≡ true) → t n ≡ true
         split true s more = ap t (same_nodes n x s) ∙ e
         split false s more = more (sym (ap (λ b. b || has_node (filter t xs) n) s) ∙ there)
@@ -179,7 +184,7 @@ parent_edge clafers scopes slots edges entries e inside same named own = by e.pa
     by (Some p) s =
         ap (λ o. option_map_or (has_edge slots edges e.node) o true) s
         ∙ edge_between (owners clafers) slots edges e.node p same (inside e.node (named_itself (is_inside clafers scopes) e named)) (inside p (one_of (is_inside clafers scopes) e.parent p s (named_others (is_inside clafers scopes) e named).0))
-          (parent_owns clafers entries e p own s)
+        (parent_owns clafers entries e p own s)
 
 -- ---- targets
 
@@ -189,12 +194,14 @@ instance_is p (e ∷ es) n h = by (p e.node.clafer) refl (instance_is p es n)
   where
     rest_nodes : List Entry
     rest_nodes = filter (λ (x : Entry). p x.node.clafer) es
+
     by : (b : Bool) → p e.node.clafer ≡ b → (has_node (nodes_of rest_nodes) n ≡ true → p n.clafer ≡ true) → p n.clafer ≡ true
     by false s rest = rest (sym (ap (λ b. has_node (nodes_of (cond b (e ∷ rest_nodes) rest_nodes)) n) s) ∙ h)
     by true s rest = split (same_node n e.node) refl rest
       where
         there : (same_node n e.node || has_node (nodes_of rest_nodes) n) ≡ true
         there = sym (ap (λ b. has_node (nodes_of (cond b (e ∷ rest_nodes) rest_nodes)) n) s) ∙ h
+
         split : (b : Bool) → same_node n e.node ≡ b → (has_node (nodes_of rest_nodes) n ≡ true → p n.clafer ≡ true) → p n.clafer ≡ true
         split true t more = ap (λ (x : Node). p x.clafer) (same_nodes n e.node t) ∙ s
         split false t more = more (sym (ap (λ b. b || has_node (nodes_of rest_nodes) n) t) ∙ there)
@@ -216,6 +223,7 @@ target_near clafers scopes entries e n h at concrete = by (reference_of clafers 
       where
         fact : refers clafers entries scopes r.to (target.Node n) ≡ true
         fact = sym (ap (λ o. option_map_or (λ (q : Reference). option_map_or (refers clafers entries scopes q.to) e.target false) o (is_none e.target)) s ∙ ap (λ o. option_map_or (refers clafers entries scopes r.to) o false) at) ∙ h
+
         to : (o : Option ℕ) → r.to ≡ o → has (referred clafers e.node.clafer) n.clafer ≡ true
         to None t = absurd (true≢false (sym (sym (ap (λ o. refers clafers entries scopes o (target.Node n)) t) ∙ fact)))
         to (Some c) t =
@@ -235,7 +243,7 @@ target_edge clafers scopes slots edges entries e inside same named meets = by e.
         let there : is_inside clafers scopes n ≡ true = one_of (is_inside clafers scopes) (target_node e) n (ap (option_and_then node_in) s) (named_others (is_inside clafers scopes) e named).1 in
         ap (λ o. option_map_or (has_edge slots edges e.node) (option_and_then node_in o) true) s
         ∙ edge_between (referred clafers) slots edges e.node n same (inside e.node (named_itself (is_inside clafers scopes) e named)) (inside n there)
-          (target_near clafers scopes entries e n meets s (both (is_concrete clafers n.clafer) (nat_lt n.number (scope_of scopes n.clafer)) there).0)
+        (target_near clafers scopes entries e n meets s (both (is_concrete clafers n.clafer) (nat_lt n.number (scope_of scopes n.clafer)) there).0)
 
 -- ---- integers
 
@@ -244,8 +252,10 @@ integer_where clafers scopes entries e h = by (reference_of clafers e.node.clafe
   where
     whole : Option Reference → Option Target → Bool
     whole o t = option_map_or (λ (r : Reference). option_map_or (refers clafers entries scopes r.to) t false) o (is_none t)
+
     meets : (o : Option Reference) → reference_of clafers e.node.clafer ≡ o → (t : Option Target) → e.target ≡ t → whole o t ≡ true
     meets o s t u = sym (ap (λ p. whole p e.target) s ∙ ap (whole o) u) ∙ h
+
     sides : (o : Option Reference) (t : Option Target) → whole o t ≡ true → is_some (option_and_then integer_in t) ≡ option_map_or (λ (r : Reference). is_none r.to) o false
     sides None None w = refl
     sides None (Some x) w = absurd (true≢false (sym w))
@@ -257,6 +267,7 @@ integer_where clafers scopes entries e h = by (reference_of clafers e.node.clafe
         to None (target.Node n) w = absurd (true≢false (sym w))
         to (Some c) (target.Int z) w = absurd (true≢false (sym w))
         to (Some c) (target.Node n) w = refl
+
     by : (o : Option Reference) → reference_of clafers e.node.clafer ≡ o → (t : Option Target) → e.target ≡ t → is_some (target_integer e) ≡ refers_to_int clafers e.node.clafer
     by o s t u = ap (λ t. is_some (option_and_then integer_in t)) u ∙ sides o t (meets o s t u) ∙ sym (ap (λ o. option_map_or (λ (r : Reference). is_none r.to) o false) s)
 
@@ -282,6 +293,7 @@ integer_ranged clafers scopes entries e h = by (reference_of clafers e.node.claf
   where
     whole : Option Reference → Option Target → Bool
     whole o t = option_map_or (λ (r : Reference). option_map_or (refers clafers entries scopes r.to) t false) o (is_none t)
+
     sides : (o : Option Reference) (t : Option Target) → whole o t ≡ true → option_map_or (fits_range scopes) t true ≡ true
     sides o None w = refl
     sides None (Some x) w = absurd (true≢false (sym w))
@@ -292,5 +304,6 @@ integer_ranged clafers scopes entries e h = by (reference_of clafers e.node.claf
         to None (target.Node n) w = absurd (true≢false (sym w))
         to (Some c) (target.Int z) w = absurd (true≢false (sym w))
         to (Some c) (target.Node n) w = refl
+
     by : (o : Option Reference) → reference_of clafers e.node.clafer ≡ o → (t : Option Target) → e.target ≡ t → option_map_or (fits_range scopes) e.target true ≡ true
     by o s t u = ap (λ t. option_map_or (fits_range scopes) t true) u ∙ sides o t (sym (ap (λ p. whole p e.target) s ∙ ap (whole o) u) ∙ h)

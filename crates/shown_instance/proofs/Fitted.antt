@@ -2,7 +2,7 @@
 use Rattle.std.proofs.Common.{◌≡◌, ℕ, zero, suc, ◌+◌, ◌<◌, ◌≤◌, Bool, true, false, cond, ◌&&◌, ◌||◌, List, [], ◌∷◌, ◌++◌, length, map, Option, Some, None, refl, sym, ap, ◌∙◌, subst, arith, get_or}
 use Rattle.std.specs.Prelude.{slice_get, ◌==◌, nat_lt, not, is_some}
 use Rattle.std.specs.Option.{option_map_or, option_to_list, IfSome}
-use Rattle.std.specs.List.{filter, flat_map, list_all, list_any, All, range_with_len}
+use Rattle.std.specs.List.{filter, flat_map, list_all, All, range_with_len}
 use Rattle.std.proofs.lemmas.Bool.{true≢false}
 use Rattle.std.proofs.lemmas.Bool.Decides.{nat_tests}
 use Rattle.std.proofs.lemmas.Grind.{common_steps}
@@ -18,13 +18,13 @@ use Rattle.clf_tree.specs.Hierarchy.{is_concrete, owners, refers_to_int}
 use Rattle.clf_tree.specs.Nodes.{same_node, is_before, has_node, nodes_of, named_by, scope_of, is_within, parent_in, target_node}
 use Rattle.set_bits.specs.declared.layout.Edge.{Edge}
 use Rattle.set_bits.specs.declared.layout.Layout.{Layout}
-use Rattle.set_bits.specs.Fitting.{nodes_below, nodes_within, slot_clafer, ends, ends_from, ends_below, all_ends, referred, Fits, slot, integer_slots}
+use Rattle.set_bits.specs.Fitting.{nodes_below, nodes_within, slot_clafer, ends, ends_from, all_ends, referred, Fits, slot, integer_slots}
 use Rattle.set_bits.specs.declared.layout.SlotBits.{SlotBits}
 use Rattle.set_bits.specs.Showing.{Shows, is_tied, target_in, target_integer, is_value, integer_target_in, has_edge, has_value_bits, value_bits}
-use Rattle.shown_instance.specs.Shown.{shown, is_live}
+use Rattle.shown_instance.specs.Shown.{shown}
 use Rattle.shown_instance.proofs.Adapting.{all_same, any_passes, test_at}
-use Rattle.shown_instance.proofs.Order.{both, together, same_itself, same_nodes}
-use Rattle.shown_instance.proofs.Telling.{shows_shown, IsTold, IsTied, IsValued, HasEdge, slot_at}
+use Rattle.shown_instance.proofs.Order.{both, together, same_nodes}
+use Rattle.shown_instance.proofs.Telling.{shows_shown, IsTold, IsValued, HasEdge, slot_at}
 
 -- ---- the slots ascend
 
@@ -90,8 +90,10 @@ has_same c k a (suc n) h l = by (k == a) refl (has_same c k (a + 1) n)
   where
     yes_here : (c k a : ℕ) → (k == a) ≡ true → same_node (record { clafer = c; number = k }) (record { clafer = c; number = a }) ≡ true
     yes_here c k a e = grind (arith, common_steps)
+
     later : (k a : ℕ) → (k == a) ≡ false → a ≤ k → a + 1 ≤ k
     later k a e h = grind (arith, common_steps)
+
     by : (b : Bool) → (k == a) ≡ b → (a + 1 ≤ k → k < (a + 1) + n → has_node (map (λ j. record { clafer = c; number = j }) (range_with_len (a + 1) n)) (record { clafer = c; number = k }) ≡ true)
         → has_node (map (λ j. record { clafer = c; number = j }) (range_with_len a (suc n))) (record { clafer = c; number = k }) ≡ true
     by true e rest = ap (λ b. b || has_node (map (λ j. record { clafer = c; number = j }) (range_with_len (a + 1) n)) (record { clafer = c; number = k })) (yes_here c k a e)
@@ -105,12 +107,16 @@ has_from f c k a (suc n) h l s =
   where
     same : (c a : ℕ) → (c == a) ≡ true → c ≡ a
     same c a e = grind (arith, common_steps)
+
     later : (c a : ℕ) → (c == a) ≡ false → a ≤ c → a + 1 ≤ c
     later c a e h = grind (arith, common_steps)
+
     here : Bool
     here = has_node (nodes_below a (f a)) (record { clafer = c; number = k })
+
     rest_has : Bool
     rest_has = has_node (flat_map (λ d. nodes_below d (f d)) (range_with_len (a + 1) n)) (record { clafer = c; number = k })
+
     by : (b : Bool) → (c == a) ≡ b → (a + 1 ≤ c → c < (a + 1) + n → k < f c → rest_has ≡ true) → (here || rest_has) ≡ true
     by true e rest =
         let s2 : k < f a = subst (λ d. k < f d) (same c a e) s in
@@ -209,7 +215,7 @@ filter_below p m a (suc n) h = by (p a) (filter_below p m (a + 1) n (omega (arit
     by true rest = together (nat_lt a m) (list_all (λ i. nat_lt i m) (filter p (range_with_len (a + 1) n))) (lt_true a m (omega (arith, h))) rest
     by false rest = rest
 
-values_inside : (clafers : List Clafer) (slots : List Node) (values : List SlotBits) → map (λ v. v.slot) values ≡ integer_slots clafers slots → list_all (λ (v : SlotBits). nat_lt v.slot (length slots)) values ≡ true
+pub values_inside : (clafers : List Clafer) (slots : List Node) (values : List SlotBits) → map (λ v. v.slot) values ≡ integer_slots clafers slots → list_all (λ (v : SlotBits). nat_lt v.slot (length slots)) values ≡ true
 values_inside clafers slots values e =
     sym (list_all-map (λ i. nat_lt i (length slots)) (λ (v : SlotBits). v.slot) values) ∙ ap (list_all (λ i. nat_lt i (length slots))) e
     ∙ filter_below (λ i. refers_to_int clafers (slot_clafer slots i)) (length slots) 0 (length slots) (omega arith)

@@ -1,6 +1,6 @@
 -- Ordered entries are what they say of a longer ordered list of nodes.
-use Rattle.std.proofs.Common.{◌≡◌, ℕ, Bool, true, false, cond, ◌&&◌, ◌||◌, List, [], ◌∷◌, Some, None, refl, sym, ap, ◌∙◌}
-use Rattle.std.specs.List.{filter_map, cons_option, find, list_all, list_any}
+use Rattle.std.proofs.Common.{◌≡◌, Bool, true, false, cond, ◌||◌, List, [], ◌∷◌, Some, None, refl, sym, ap, ◌∙◌}
+use Rattle.std.specs.List.{filter_map, cons_option, list_all}
 use Rattle.std.proofs.lemmas.Bool.{true≢false}
 use Rattle.clf_tree.specs.declared.instance.Node.{Node}
 use Rattle.clf_tree.specs.declared.instance.Entry.{Entry}
@@ -50,10 +50,13 @@ merged (e ∷ es) (x ∷ xs) a o h = by (same_node e.node x) refl (merged es xs 
   where
     p : (list_all (is_before x) xs ≡ true) × (each_two is_before xs ≡ true)
     p = both (list_all (is_before x) xs) (each_two is_before xs) a
+
     q : (list_all (λ (y : Entry). is_before e.node y.node) es ≡ true) × (is_ordered es ≡ true)
     q = both (list_all (λ (y : Entry). is_before e.node y.node) es) (is_ordered es) o
+
     r : (has_node (x ∷ xs) e.node ≡ true) × (list_all (λ (y : Entry). has_node (x ∷ xs) y.node) es ≡ true)
     r = both (has_node (x ∷ xs) e.node) (list_all (λ (y : Entry). has_node (x ∷ xs) y.node) es) h
+
     by : (b : Bool) → same_node e.node x ≡ b → (is_ordered es ≡ true → list_all (λ (y : Entry). has_node xs y.node) es ≡ true → filter_map (entry_of es) xs ≡ es)
         → (list_all (λ (y : Entry). has_node xs y.node) (e ∷ es) ≡ true → filter_map (entry_of (e ∷ es)) xs ≡ e ∷ es) → filter_map (entry_of (e ∷ es)) (x ∷ xs) ≡ e ∷ es
     by true s less more =

@@ -11,21 +11,19 @@ use Rattle.std.proofs.lemmas.Bool.Decides.{eqb_tells, nat_tests, Decides-int_eq}
 use Rattle.std.proofs.lemmas.Grind.{common_steps}
 use Rattle.std.proofs.lemmas.List.Elements.{All-head, All-tail}
 use Rattle.bool_circuit.specs.Circuit.{entry}
-use Rattle.clf_tree.specs.declared.model.Clafer.{Clafer}
 use Rattle.clf_tree.specs.declared.instance.Node.{Node}
 use Rattle.clf_tree.specs.declared.instance.Target.{Target}
 use Rattle.clf_tree.specs.declared.instance.Target.TheVariants as target
 use Rattle.clf_tree.specs.declared.instance.Entry.{Entry}
-use Rattle.clf_tree.specs.declared.scopes.Scopes.{Scopes}
-use Rattle.clf_tree.specs.Lists.{each_two, numbers_below}
+use Rattle.clf_tree.specs.Lists.{each_two}
 use Rattle.clf_tree.specs.Nodes.{same_node, is_before, has_node, nodes_of, entry_of, parent_in, target_node, node_in}
 use Rattle.set_bits.specs.declared.layout.Edge.{Edge}
 use Rattle.set_bits.specs.declared.layout.Layout.{Layout}
 use Rattle.set_bits.specs.Fitting.{slot}
 use Rattle.set_bits.specs.declared.layout.SlotBits.{SlotBits}
-use Rattle.set_bits.specs.Showing.{is_tied, target_in, target_integer, integer_in, integer_target_in, has_edge, has_value_bits, value_bits, is_value}
+use Rattle.set_bits.specs.Showing.{is_tied, target_in, target_integer, integer_in, integer_target_in, has_value_bits, value_bits, is_value}
 use Rattle.shown_instance.specs.Shown.{shown, entry_at, leads_to, is_taken, is_live, is_at, integer_at, target_of}
-use Rattle.shown_instance.proofs.Adapting.{Passing, any_passes, none_passes}
+use Rattle.shown_instance.proofs.Adapting.{any_passes, none_passes}
 use Rattle.shown_instance.proofs.Order.{both, together, same_nodes, same_itself, before_irrefl}
 use Rattle.shown_instance.proofs.Merging.{merged}
 

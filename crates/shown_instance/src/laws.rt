@@ -1,6 +1,6 @@
 //! What bits that show an instance say of it.
 
-ghost use Rattle.std.specs.Prelude.{◌≡◌, Bool, List, IsTrue, map};
+ghost use Rattle.std.specs.Prelude.{◌≡◌, Bool, List, IsTrue, length, map, nat_lt};
 ghost use Rattle.std.specs.List.{list_all};
 ghost use Rattle.clf_tree.specs.declared.model.Clafer.{Clafer};
 ghost use Rattle.clf_tree.specs.declared.scopes.Scopes.{Scopes};
@@ -28,8 +28,9 @@ pub fn aligned_entries_are_found()
     ensures { (clafers : List Clafer) (scopes : Scopes) (layout : Layout) (entries : List Entry) → Fits clafers scopes layout → IsTrue (is_within clafers scopes entries) → IsTrue (is_ordered entries) → aligned layout.slots entries ≡ map (entry_of entries) layout.slots }
 {}
 
-/// The edges of a layout that fits lead from slots to slots.
+/// The edges of a layout that fits lead from slots to slots, and its integers are those of slots.
 pub fn edges_lie_between_slots()
     ensures parents { (clafers : List Clafer) (scopes : Scopes) (layout : Layout) → Fits clafers scopes layout → IsTrue (list_all (is_between layout.slots) layout.parents) }
     ensures targets { (clafers : List Clafer) (scopes : Scopes) (layout : Layout) → Fits clafers scopes layout → IsTrue (list_all (is_between layout.slots) layout.targets) }
+    ensures values { (clafers : List Clafer) (scopes : Scopes) (layout : Layout) → Fits clafers scopes layout → IsTrue (list_all (λ v. nat_lt v.slot (length layout.slots)) layout.values) }
 {}
