@@ -1,8 +1,11 @@
 pub mod Among
+pub mod Beyond
 pub mod Depths
 pub mod FirstWays
 pub mod Heights
 pub mod Meanings
+pub mod MeansOnce
+pub mod MeansThere
 pub mod Members
 pub mod Numbers
 pub mod Rows

@@ -3,8 +3,6 @@
 ghost use Rattle.std.specs.Prelude.{◌≡◌, ◌<◌, ◌^◌, [], ◌∷◌, length, IfOk, IsTrue};
 ghost use Rattle.clf_tree.specs.Hierarchy.{is_closed, parent_of};
 ghost use Rattle.clf_tree.specs.Lists.{numbers_below};
-ghost use Rattle.std.specs.List.{list_all, list_any};
-ghost use Rattle.std.specs.Prelude.{nat_lt};
 ghost use Rattle.name_resolver.specs.Ways.{is_child, children};
 ghost use Rattle.name_resolver.specs.Levels.{is_child_of, step_down};
 
@@ -25,14 +23,26 @@ pub fn is_child(clafers: &List<Clafer>, clafer: u32, child: u32) -> bool
     }
 }
 
+// A clafer that is not there has no child.
+#[tactic(auto, using(crate::proofs::Beyond::beyond_steps))]
+fn has_child(clafers: &List<Clafer>, clafer: u32, child: u32) -> bool
+    requires child_in { child < length clafers.now }
+    requires closed { IsTrue (is_closed clafers.now) }
+    ensures { result ≡ is_child clafers.now clafer child }
+{
+    if clafer as usize >= clafers.len() {
+        return false;
+    }
+    is_child(clafers, clafer, child)
+}
+
 fn is_child_of(clafers: &List<Clafer>, level: &List<u32>, child: u32) -> bool
-    requires level_in { IsTrue (list_all (λ m. nat_lt m (length clafers.now)) level.now) }
     requires child_in { child < length clafers.now }
     requires closed { IsTrue (is_closed clafers.now) }
     ensures { result ≡ is_child_of clafers.now level.now child }
 {
     for clafer in level.as_slice() {
-        if is_child(clafers, *clafer, child) {
+        if has_child(clafers, *clafer, child) {
             return true;
         }
     }
@@ -46,7 +56,6 @@ pub fn step_down(
     clafers: &List<Clafer>,
     level: &List<u32>,
 ) -> Result<List<u32>, NoMemory>
-    requires level_in { IsTrue (list_all (λ m. nat_lt m (length clafers.now)) level.now) }
     requires closed { IsTrue (is_closed clafers.now) }
     requires few { length clafers.now < 2 ^ 32 }
     ensures { IfOk result (λ next. next ≡ step_down clafers.now level.now) }

@@ -15,6 +15,6 @@ mod tests;
 
 pub use levels::{children, step_down};
 pub use nearest::{Nearest, nearest_below};
-pub use outside::{Found, at_top, meaning};
+pub use outside::{Found, at_top, meaning, means_one, means_there};
 pub use steps::{Meant, children_named, steps_of};
 pub use taken::way_taken;

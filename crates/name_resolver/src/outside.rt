@@ -5,6 +5,7 @@ ghost use Rattle.clf_tree.specs.Hierarchy.{is_closed, parent_of};
 ghost use Rattle.clf_tree.specs.Named.{each, follows_parent};
 ghost use Rattle.name_resolver.specs.LookUp.{IsNearest};
 ghost use Rattle.name_resolver.specs.Outwards.{Means, at_top, is_at_top};
+ghost use Rattle.name_resolver.specs.Meaning.{meaning_of, MeansOne, MeansThere};
 ghost use Rattle.name_resolver.specs.declared.nearest.Nearest.TheVariants as nearest;
 
 use crate::nearest::{Nearest, is_named, nearest_below};
@@ -72,11 +73,8 @@ fn below(
     }
 }
 
-/// What a name means from a context clafer, or at top level.
-///
-/// The levels below the context are searched first, then those below its declaring parent, and so outwards; at last the clafers
-/// at top level.
-pub fn meaning(
+// Context by context outwards.
+fn found_outwards(
     alloc: Global,
     clafers: &List<Clafer>,
     context: Option<u32>,
@@ -99,3 +97,34 @@ pub fn meaning(
     }
     Ok(at_top(clafers, name))
 }
+
+/// What a name means from a context clafer, or at top level.
+///
+/// The levels below the context are searched first, then those below its declaring parent, and so outwards; at last the clafers
+/// at top level. Each level goes over the clafers.
+pub fn meaning(
+    alloc: Global,
+    clafers: &List<Clafer>,
+    context: Option<u32>,
+    name: &List<u8>,
+) -> Result<Found, NoMemory>
+    requires context_in { IfSome context (λ c. c < length clafers.now) }
+    requires closed { IsTrue (is_closed clafers.now) }
+    requires parents_first { IsTrue (each clafers.now (follows_parent clafers.now)) }
+    requires few { length clafers.now < 2 ^ 32 }
+    ensures by_ways { IfOk result (λ found. Means clafers.now name.now context 0 found) }
+    ensures is_one { IfOk result (λ found. found ≡ meaning_of clafers.now context name.now) }
+{
+    let found = found_outwards(alloc, clafers, context, name)?;
+    Ok(found)
+}
+
+/// From each context a name means one thing, which is what the function of the definitions gives.
+pub fn means_one()
+    ensures { MeansOne }
+{}
+
+/// The clafers of what a name means are of the model.
+pub fn means_there()
+    ensures { MeansThere }
+{}

@@ -1,8 +1,7 @@
 //! How what a name means is written as steps.
 
-ghost use Rattle.std.specs.Prelude.{◌≡◌, ◌<◌, ◌^◌, [], ◌∷◌, length, IfOk, IsTrue, Some, None, true, false, nat_lt};
+ghost use Rattle.std.specs.Prelude.{◌≡◌, ◌<◌, ◌^◌, [], ◌∷◌, length, IfOk, IsTrue, Some, None, true, false};
 ghost use Rattle.std.specs.Option.{option_map};
-ghost use Rattle.std.specs.List.{list_all};
 ghost use Rattle.clf_tree.specs.Hierarchy.{is_closed};
 ghost use Rattle.clf_tree.specs.Tree.{tree};
 ghost use Rattle.name_resolver.specs.Steps.{outwards, downwards, step, to_parent, steps_of};
@@ -106,7 +105,6 @@ pub fn children_named(
     name: &List<u8>,
     ks: &List<u32>,
 ) -> Result<List<u32>, NoMemory>
-    requires level_in { IsTrue (list_all (λ m. nat_lt m (length clafers.now)) ks.now) }
     requires closed { IsTrue (is_closed clafers.now) }
     requires few { length clafers.now < 2 ^ 32 }
     ensures { IfOk result (λ found. found ≡ named clafers.now name.now (step_down clafers.now ks.now)) }

@@ -2,7 +2,7 @@ use Rattle.std.proofs.Common.{◌≡◌, ℕ, ◌+◌, ◌<◌, length, Some}
 use Rattle.std.specs.Option.{option_map_or}
 use Rattle.name_resolver.specs.declared.outside.Found.{Found}
 use Rattle.name_resolver.specs.Outwards.{Means}
-use Rattle.name_resolver.proofs.outside.meaning.Given as goal
+use Rattle.name_resolver.proofs.outside.found_outwards.Given as goal
 
 -- what it means from here is what it means from the context
 abbrev pub invariant-loop-current : goal.invariant-loop-current
