@@ -1,3 +1,10 @@
+pub mod Inverse
+pub mod Items
 pub mod Kept
 pub mod Namesakes
 pub mod Paths
+pub mod Pieces
+pub mod Reached
+pub mod Rising
+pub mod ShownNames
+pub mod Walk

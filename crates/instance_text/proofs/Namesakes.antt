@@ -38,3 +38,7 @@ pub passes : (d c : ℕ) (a b x y : List ℕ) → (d ≡ c → ⊥) → a ≡ x 
 passes d c a b x y apart e f same = ap (λ z. not z && bytes_eq x y) (not_equal d c apart) ∙ ap (λ z. bytes_eq z y) (sym e) ∙ ap (bytes_eq a) (sym f) ∙ same
 
 pub ruleset namesake_steps = (any-none, any-some)
+
+-- a table of one more clafer
+pub shown_more : {X : Type 0} (f : ℕ → X) (n : ℕ) → map f (numbers_below (n + 1)) ≡ map f (numbers_below n) ++ f n ∷ []
+shown_more f n = map-range_with_len_more f 0 n n (omega arith)

@@ -4,9 +4,16 @@
 //! lists a node, then its children two blanks deeper, all in the order of the model.
 #![tactic(auto)]
 
+mod entries;
+mod lines;
 mod names;
+mod numbers;
+mod reading;
+#[cfg(test)]
+mod reading_tests;
 #[cfg(test)]
 mod tests;
 mod tree;
 
+pub use reading::read;
 pub use tree::show;

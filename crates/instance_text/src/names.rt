@@ -66,7 +66,11 @@ fn push_path(
     }
 }
 
-fn push_clafer(text: &mut List<u8>, clafers: &[Clafer], clafer: usize) -> Result<(), NoMemory>
+pub(crate) fn push_clafer(
+    text: &mut List<u8>,
+    clafers: &[Clafer],
+    clafer: usize,
+) -> Result<(), NoMemory>
     ensures { OnOk result (text.new ≡ text.old ++ spec.shown_clafer clafers.now clafer) }
 {
     if has_namesake(clafers, clafer) {

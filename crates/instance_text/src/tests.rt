@@ -10,7 +10,7 @@ use std::test::Fail;
 
 const HERE: Span = Span { line: 0, column: 0 };
 
-fn clafer(alloc: Global, name: &[u8], parent: Option<u32>) -> Result<Clafer, Fail> {
+pub(crate) fn clafer(alloc: Global, name: &[u8], parent: Option<u32>) -> Result<Clafer, Fail> {
     Ok(Clafer {
         title: Title {
             name: List::from_slice(alloc, name)?,
@@ -25,7 +25,7 @@ fn clafer(alloc: Global, name: &[u8], parent: Option<u32>) -> Result<Clafer, Fai
     })
 }
 
-fn model(alloc: Global, clafers: List<Clafer>) -> Model {
+pub(crate) fn model(alloc: Global, clafers: List<Clafer>) -> Model {
     Model {
         clafers,
         rules: List::new(alloc),

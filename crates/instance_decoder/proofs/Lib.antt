@@ -1,0 +1,5 @@
+pub mod Noting
+pub mod Spelling
+pub mod Told
+pub mod Widths
+pub mod Worked

@@ -1,0 +1,17 @@
+//! The bits of an instance as inputs of a circuit.
+//!
+//! `layout` makes an input for each fact that an instance within the scopes can have: which nodes are there, what their parents and
+//! targets are, and to which integers they refer.
+#![tactic(auto)]
+
+mod edges;
+mod inputs;
+mod integers;
+mod layouts;
+mod near;
+mod nodes;
+
+pub use layouts::layout;
+
+#[cfg(test)]
+mod tests;

@@ -1,0 +1,7 @@
+use Rattle.std.proofs.lemmas.Bool.Decides.{Decides-eqb}
+use Rattle.std.proofs.lemmas.Slice.Eq.{strip_suffix_is}
+use Rattle.scope_table.proofs.Endings.{before_is}
+use Rattle.scope_table.proofs.paths.before.Goals as goal
+
+pub returns : goal.returns
+returns c = before_is c.args.text.now c.args.ending.now c.strip_suffix.result (strip_suffix_is Decides-eqb c.args.text.now c.args.ending.now c.strip_suffix.result c.strip_suffix.ensures.cases)

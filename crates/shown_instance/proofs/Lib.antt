@@ -1,0 +1,9 @@
+pub mod Adapting
+pub mod Aligning
+pub mod Belonging
+pub mod Fitted
+pub mod Merging
+pub mod Order
+pub mod Packing
+pub mod Reading
+pub mod Telling
