@@ -18,7 +18,7 @@ use Rattle.clf_tree.specs.Hierarchy.{parent_of, is_concrete, is_a, is_below, con
 use Rattle.clf_tree.specs.Nodes.{same_node, is_before, has_node, has_some, nodes_of, target_node, is_ordered, named_by, scope_of, is_within, ends_within, has_its_parent, is_tree}
 use Rattle.clf_tree.specs.Shape.{allows, is_child_of, instances, meets_times, has_shape}
 use Rattle.clf_tree.specs.Satisfies.{holds, laws_of, satisfies}
-use Rattle.clafer_parser.specs.FirstShape.{AreFeatures, IsFeature, IsFirstShape}
+use Rattle.first_form.specs.FirstShape.{AreFeatures, IsFeature, IsFirstShape}
 use Rattle.clafer_run.specs.Trial.{one_each, only_node, only_entry, is_there, is_possible, are_before, are_from, has_feature_shape, IsInstance, HasNoneFrom, HasNoneWith, Finds}
 use Rattle.clafer_run.specs.Place.{are_of}
 use Rattle.clafer_run.proofs.Features.{is_a-same, shape_of_features, any_filter, any_filter_map}

@@ -13,7 +13,7 @@ use Rattle.clf_tree.specs.Hierarchy.{super_of, own_reference, reference_of, way_
 use Rattle.clf_tree.specs.declared.instance.Node.{Node}
 use Rattle.clf_tree.specs.Nodes.{same_node, nodes_of, has_some, has_its_parent}
 use Rattle.clf_tree.specs.Shape.{allows, is_child_of, instances, meets_times, meets_group, refers, meets_reference, is_set, same_target, same_option, differ, has_shape}
-use Rattle.clafer_parser.specs.FirstShape.{AreFeatures, IsFeature}
+use Rattle.first_form.specs.FirstShape.{AreFeatures, IsFeature}
 use Rattle.clafer_run.specs.Trial.{has_feature_shape}
 
 -- lists and truth values

@@ -1,4 +1,5 @@
 pub mod Answered
+pub mod Stages
 pub mod Known
 pub mod Features
 pub mod Cover

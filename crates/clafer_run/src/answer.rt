@@ -2,16 +2,18 @@
 
 ghost use Rattle.std.specs.Prelude.{◌≡◌, ◌≤◌, length, IfOk};
 ghost use Rattle.clf_base.specs.Status.{number_of};
-ghost use Rattle.clafer_parser.specs.FirstShape.{IsFirstShape};
-ghost use Rattle.clafer_run.specs.Model.{ModelOutcome, IsAnswerOf, optional_count, unexpected_line, too_many_line};
+ghost use Rattle.first_form.specs.FirstModel.{first_model};
+ghost use Rattle.first_form.specs.FirstShape.{IsFirstShape};
+ghost use Rattle.clafer_run.specs.Model.{ModelOutcome, FormOutcome, IsAnswerOf, IsTold, optional_count};
 
 use crate::choices::trial;
+use crate::reading::read_module;
+use crate::refusals::{error_line, nowhere};
 use crate::report::{instance_report, no_instance_report};
 use crate::{LIMIT, Request};
-use clafer_parser::first;
-use clf_base::{List, NoMemory, Status};
-use clf_tree::Model;
-use itoa::Buffer;
+use clf_base::{Fault, List, NoMemory, Refusal, Status};
+use clf_tree::{Model, Module};
+use first_form::first_model;
 use std::alloc::Global;
 
 /// The most optional features whose choices are tried.
@@ -32,22 +34,49 @@ pub(crate) fn answer_to(alloc: Global, request: Request, text: &[u8]) -> Result<
     ensures in_range { IfOk result (λ answer. number_of answer.status ≤ 4) }
 {
     let Request::One = request;
-    match first(alloc, text)? {
+    match read_module(alloc, text) {
+        Ok(read) => {
+            let answer = answer_of_module(alloc, &read)?;
+            Ok(answer)
+        }
+        Err(Fault::Refused(refusal)) => {
+            let answer = told(alloc, refusal)?;
+            Ok(answer)
+        }
+        Err(Fault::NoMemory) => Err(NoMemory),
+    }
+}
+
+/// The answer to a refusal.
+fn told(alloc: Global, refusal: Refusal) -> Result<Answer, NoMemory>
+    ensures told { IfOk result (λ answer. IsTold refusal answer.output answer.status) }
+    ensures in_range { IfOk result (λ answer. number_of answer.status ≤ 4) }
+{
+    let output = error_line(alloc, refusal)?;
+    Ok(Answer {
+        status: Status::Refused,
+        output,
+    })
+}
+
+/// The answer to a module.
+fn answer_of_module(alloc: Global, text: &Module) -> Result<Answer, NoMemory>
+    ensures outcome { IfOk result (λ answer. FormOutcome (first_model text.now) answer.output answer.status) }
+    ensures in_range { IfOk result (λ answer. number_of answer.status ≤ 4) }
+{
+    match first_model(alloc, text)? {
         Some(model) => {
             let answer = answer_of(alloc, &model)?;
             Ok(answer)
         }
         None => {
-            let output = List::from_slice(alloc, b"error E040 0:0 0 unexpected token\n")?;
-            Ok(Answer {
-                status: Status::Refused,
-                output,
-            })
+            let answer = told(alloc, nowhere(99, 0))?;
+            Ok(answer)
         }
     }
 }
 
-/// The answer to a model, whichever text of the first form has it.
+/// The answer to a model, whichever module of the first form has it.
 fn answer_of(alloc: Global, model: &Model) -> Result<Answer, NoMemory>
     requires { IsFirstShape model.now }
     ensures outcome { IfOk result (λ answer. IsAnswerOf model.now answer.output answer.status) }
@@ -55,7 +84,7 @@ fn answer_of(alloc: Global, model: &Model) -> Result<Answer, NoMemory>
 {
     let optional = optional_count(model);
     if optional > MOST_OPTIONAL {
-        let output = too_many(alloc, optional)?;
+        let output = error_line(alloc, nowhere(95, optional as u64))?;
         return Ok(Answer {
             status: Status::Refused,
             output,
@@ -89,14 +118,4 @@ fn optional_count(model: &Model) -> usize
         .iter()
         .filter(|clafer| clafer.times.low == 0)
         .count()
-}
-
-fn too_many(alloc: Global, optional: usize) -> Result<List<u8>, NoMemory>
-    ensures { IfOk result (λ line. line ≡ too_many_line optional) }
-{
-    let mut buffer = Buffer::new();
-    let mut line = List::from_slice(alloc, b"error E095 0:0 ")?;
-    line.extend(buffer.format(optional).as_bytes())?;
-    line.extend(b" too many optional clafers\n")?;
-    Ok(line)
 }

@@ -4,7 +4,7 @@ ghost use Rattle.std.specs.Prelude.{◌≡◌, ◌≤◌, ◌<◌, ◌+◌, [], 
 ghost use Rattle.clf_tree.specs.declared.instance.Entry.{Entry};
 ghost use Rattle.clf_tree.specs.Nodes.{is_ordered};
 ghost use Rattle.clf_tree.specs.Satisfies.{satisfies};
-ghost use Rattle.clafer_parser.specs.FirstShape.{IsFirstShape};
+ghost use Rattle.first_form.specs.FirstShape.{IsFirstShape};
 ghost use Rattle.clafer_run.specs.Place.{are_of};
 ghost use Rattle.clafer_run.specs.Trial as spec;
 ghost use Rattle.clafer_run.specs.Trial.{IsInstance, HasNoneFrom, HasNoneWith, Finds};

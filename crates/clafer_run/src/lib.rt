@@ -7,6 +7,8 @@ mod input;
 mod nodes;
 mod output;
 mod place;
+mod reading;
+mod refusals;
 mod report;
 mod respond;
 mod rules;

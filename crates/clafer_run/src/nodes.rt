@@ -7,7 +7,7 @@ ghost use Rattle.clf_tree.specs.Hierarchy.{is_closed, is_a, is_one_of};
 ghost use Rattle.clf_tree.specs.Nodes.{same_node, has_node, has_some};
 ghost use Rattle.clf_tree.specs.Meaning.{value, nodes, nodes_where, parents, children};
 ghost use Rattle.clf_tree.specs.Tree.{tree};
-ghost use Rattle.clafer_parser.specs.FirstShape.{is_path};
+ghost use Rattle.first_form.specs.FirstShape.{is_path};
 ghost use Rattle.clafer_run.specs.Place.{are_of, situation};
 
 use crate::place::Place;

@@ -6,6 +6,7 @@ ghost use Rattle.clafer_run.specs.Run.{IsAnswer, ReadsWithinLimit};
 
 use crate::answer::{Answer, answer_to};
 use crate::input::{Stop, Text, read_text};
+use crate::refusals::{error_line, nowhere};
 use crate::words::words_of;
 use clf_base::{List, Source, Status};
 use std::alloc::Global;
@@ -33,7 +34,7 @@ pub(crate) fn respond<S: Source>(
     match read_text(alloc, source)? {
         Text::TooLong => Ok(Answer {
             status: Status::Refused,
-            output: List::from_slice(alloc, b"error E010 0:0 1048577 text too long\n")?,
+            output: error_line(alloc, nowhere(10, 1_048_577))?,
         }),
         Text::Whole(text) => Ok(answer_to(alloc, request, text.as_slice())?),
     }

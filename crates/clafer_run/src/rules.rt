@@ -5,7 +5,7 @@ ghost use Rattle.std.specs.List.{list_all};
 ghost use Rattle.clf_tree.specs.Hierarchy.{is_closed};
 ghost use Rattle.clf_tree.specs.Satisfies.{holds, laws_of};
 ghost use Rattle.clf_tree.specs.Tree.{tree};
-ghost use Rattle.clafer_parser.specs.FirstShape.{is_simple};
+ghost use Rattle.first_form.specs.FirstShape.{is_simple};
 ghost use Rattle.clafer_run.specs.Place.{are_of};
 
 use crate::place::Place;

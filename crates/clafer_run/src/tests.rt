@@ -21,7 +21,7 @@ struct Case {
     output: &'static [u8],
 }
 
-const CASES: [Case; 10] = [
+const CASES: [Case; 14] = [
     // the empty text has the empty instance
     Case {
         words: &["one"],
@@ -73,15 +73,43 @@ const CASES: [Case; 10] = [
     Case {
         words: &["one"],
         text: b"a b\n",
-        status: Status::Refused,
-        output: b"error E040 0:0 0 unexpected token\n",
+        status: Status::Done,
+        output: b"scopes 2\na 1\nb 1\nints -2048..2047\ninstance\na$0\nb$0\n",
     },
     // a name that stands under another feature
     Case {
         words: &["one"],
         text: b"a\n    b ?\n        c ?\n    [ c ]\n",
         status: Status::Refused,
-        output: b"error E040 0:0 0 unexpected token\n",
+        output: b"error E099 0:0 0 form not built yet\n",
+    },
+    // bytes that are no text
+    Case {
+        words: &["one"],
+        text: b"a \xff",
+        status: Status::Refused,
+        output: b"error E011 1:3 2 text is not UTF-8\n",
+    },
+    // a text that can't be cut
+    Case {
+        words: &["one"],
+        text: b"a 2147483648\n",
+        status: Status::Refused,
+        output: b"error E022 1:3 0 literal too large\n",
+    },
+    // a line in a column of no open block
+    Case {
+        words: &["one"],
+        text: b"a\n    b\n  [ b ]\n",
+        status: Status::Refused,
+        output: b"error E030 3:3 3 column of no open block\n",
+    },
+    // a word that models don't use
+    Case {
+        words: &["one"],
+        text: b"assert [ a ]\n",
+        status: Status::Refused,
+        output: b"error E042 1:1 0 word is left out\n",
     },
     // seventeen optional features
     Case {
@@ -150,16 +178,21 @@ fn a_write_fault_leaves_a_prefix(rt: HostRuntime) -> Result<(), Fail> {
     Ok(())
 }
 
-// A text of this many line ends: the limit is tried from both sides.
+// A text of so many blanks: the limit is tried from both sides.
 #[test]
 fn one_byte_too_many_is_refused(rt: HostRuntime) -> Result<(), Fail> {
     let alloc = rt.alloc();
     let words = words_of_texts(alloc, &["one"])?;
     let most: usize = 1_048_576;
-    for (length, output) in [
-        (most, b"error E040 0:0 0 unexpected token\n".as_slice()),
+    for (length, number, output) in [
+        (
+            most,
+            0,
+            b"scopes 0\nints -2048..2047\ninstance\n".as_slice(),
+        ),
         (
             most + 1,
+            2,
             b"error E010 0:0 1048577 text too long\n".as_slice(),
         ),
     ] {
@@ -168,7 +201,7 @@ fn one_byte_too_many_is_refused(rt: HostRuntime) -> Result<(), Fail> {
         let mut sink = MemorySink::new(alloc, 64, 64, List::new(alloc))?;
         let status = run(alloc, &words, &mut source, &mut sink);
         assert_eq!(rt; sink.bytes(), output, "at {length}");
-        assert_eq!(rt; status.number(), 2);
+        assert_eq!(rt; status.number(), number);
     }
     Ok(())
 }

@@ -5,7 +5,7 @@ ghost use Rattle.std.specs.Option.{option_map_or};
 ghost use Rattle.clf_tree.specs.Hierarchy.{is_closed};
 ghost use Rattle.clf_tree.specs.Meaning.{value, nodes, is_true};
 ghost use Rattle.clf_tree.specs.Tree.{tree};
-ghost use Rattle.clafer_parser.specs.FirstShape.{is_path, is_simple};
+ghost use Rattle.first_form.specs.FirstShape.{is_path, is_simple};
 ghost use Rattle.clafer_run.specs.Place.{are_of, situation};
 
 use crate::nodes::{children, instances, parents};

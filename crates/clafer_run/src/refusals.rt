@@ -1,0 +1,93 @@
+//! The lines that tell refusals.
+
+ghost use Rattle.std.specs.Prelude.{◌≡◌, ◌==◌, ◌+◌, ◌%◌, ◌++◌, [], IfOk, OnOk};
+ghost use Rattle.std.specs.Option.{option_map_or};
+ghost use Rattle.std.specs.Map.{lookup};
+ghost use Rattle.clafer_run.specs.Refusals as spec;
+
+use clf_base::{List, NoMemory, Refusal, Span};
+use itoa::Buffer;
+use std::alloc::Global;
+
+/// What is wrong, by its code.
+pub static REASONS: [(u16, &[u8]); 11] = [
+    (10, b"text too long"),
+    (11, b"text is not UTF-8"),
+    (20, b"no token"),
+    (21, b"comment is not closed"),
+    (22, b"literal too large"),
+    (30, b"column of no open block"),
+    (40, b"unexpected token"),
+    (41, b"nested too deep"),
+    (42, b"word is left out"),
+    (95, b"too many optional clafers"),
+    (99, b"form not built yet"),
+];
+
+/// The text of the first entry with this code.
+fn find(table: &[(u16, &'static [u8])], code: u16) -> &'static [u8]
+    ensures { result.now ≡ option_map_or (λ text. text.now) (lookup (λ other. other == code) table.now) [] }
+{
+    for (other, text) in table {
+        if *other == code {
+            return *text;
+        }
+    }
+    b""
+}
+
+/// What is wrong, by its code.
+#[tactic(auto, unfolding(crate::specs::Refusals::reason))]
+fn reason(code: u16) -> &'static [u8]
+    ensures { result.now ≡ spec.reason code }
+{
+    find(&REASONS, code)
+}
+
+/// The last digit of a number.
+fn digit(number: u16) -> u8
+    ensures { result ≡ 48 + number % 10 }
+{
+    b'0' + (number % 10) as u8
+}
+
+/// A code below 1000 in three digits.
+fn push_code(text: &mut List<u8>, code: u16) -> Result<(), NoMemory>
+    ensures { OnOk result (text.new ≡ text.old ++ spec.three_digits code) }
+{
+    text.push(digit(code / 100))?;
+    text.push(digit(code / 10))?;
+    text.push(digit(code))?;
+    Ok(())
+}
+
+/// The line that tells a refusal.
+#[tactic(auto, unfolding(crate::specs::Refusals::error_line))]
+pub(crate) fn error_line(alloc: Global, refusal: Refusal) -> Result<List<u8>, NoMemory>
+    ensures { IfOk result (λ line. line ≡ spec.error_line refusal) }
+{
+    let mut buffer = Buffer::new();
+    let mut line = List::from_slice(alloc, b"error E")?;
+    push_code(&mut line, refusal.code)?;
+    line.extend(b" ")?;
+    line.extend(buffer.format(refusal.at.line).as_bytes())?;
+    line.extend(b":")?;
+    line.extend(buffer.format(refusal.at.column).as_bytes())?;
+    line.extend(b" ")?;
+    line.extend(buffer.format(refusal.value).as_bytes())?;
+    line.extend(b" ")?;
+    line.extend(reason(refusal.code))?;
+    line.extend(b"\n")?;
+    Ok(line)
+}
+
+/// A refusal at no place.
+pub(crate) fn nowhere(code: u16, value: u64) -> Refusal
+    ensures { result ≡ spec.nowhere code value }
+{
+    Refusal {
+        code,
+        at: Span { line: 0, column: 0 },
+        value,
+    }
+}

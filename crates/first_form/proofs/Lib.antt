@@ -1,0 +1,4 @@
+mod Growth
+mod Joining
+mod Parts
+mod Children

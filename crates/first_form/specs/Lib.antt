@@ -1,0 +1,3 @@
+pub mod FirstModel
+pub mod FirstShape
+pub mod Grown
