@@ -1,0 +1,12 @@
+pub mod Found
+pub mod Joined
+pub mod Known
+pub mod Marking
+pub mod Numbers
+pub mod Outside
+pub mod Owners
+pub mod Parents
+pub mod Repeats
+pub mod Rising
+pub mod Unchanged
+pub mod WaysUp

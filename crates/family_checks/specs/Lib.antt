@@ -1,0 +1,3 @@
+pub mod Families
+pub mod Heights
+pub mod Marks

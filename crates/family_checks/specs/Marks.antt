@@ -1,0 +1,15 @@
+-- Marks that go down from a clafer with a reference to all that inherit from it: what isn't marked has no reference.
+use Rattle.std.specs.Prelude.{ℕ, ◌≡◌, Bool, true, List, get_or, Some, is_some}
+use Rattle.clf_tree.specs.declared.model.Clafer.{Clafer}
+use Rattle.clf_tree.specs.Hierarchy.{super_of, own_reference}
+
+abbrev pub is_marked : List Bool → ℕ → Bool
+is_marked marks c = get_or marks c true
+
+-- a clafer with a reference is marked, and one whose super is
+pub record GoDownAt (clafers : List Clafer) (marks : List Bool) (c : ℕ) : Type 0 where
+  pub own : is_some (own_reference clafers c) ≡ true → is_marked marks c ≡ true
+  pub inherited : (s : ℕ) → super_of clafers c ≡ Some s → is_marked marks s ≡ true → is_marked marks c ≡ true
+
+abbrev pub GoDown : List Clafer → List Bool → Type 0
+GoDown clafers marks = (c : ℕ) → GoDownAt clafers marks c
