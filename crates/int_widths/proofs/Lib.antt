@@ -1,3 +1,4 @@
 pub mod Clamps
 pub mod Firsts
+pub mod Rows
 pub mod ScopeSums

@@ -12,8 +12,9 @@ use Rattle.clf_tree.specs.Tree as e
 use Rattle.clf_tree.specs.Core as c
 use Rattle.clf_tree.specs.CoreWeights.{core_weight}
 use Rattle.clf_tree.specs.Widths.{width}
+use Rattle.int_widths.specs.Narrow.{is_narrow_law}
 use Rattle.relational_core.specs.Lowered.{lowered_law, lowered_goal, kind_interval}
-use Rattle.relational_core.specs.Conditions.{is_typed_law, is_narrow_law}
+use Rattle.relational_core.specs.Conditions.{is_typed_law}
 
 abbrev at : Span
 at = record { line = 0; column = 0 }

@@ -166,7 +166,7 @@ module _ (clafers : List Clafer) (scopes : Scopes) (closed : is_closed clafers �
       any-mapped (target_of clafers) (λ c. is_some (target_of clafers c)) (is_a clafers x) (is_a clafers d) ks all
       (λ k some up. ap (λ o. option_map_or (is_a clafers d) o false) (same-target x k (reference_of clafers x) (reference_of clafers k) up refl refl (there (is_a clafers d) (target_of clafers x) h) some) ∙ h) one
 
-  found-in : (ks ls : List ℕ) (b : Bool) → list_all (λ c. is_some (target_of clafers c)) ks ≡ b → list_all (is_one_of clafers ks) ls ≡ true
+  pub found-in : (ks ls : List ℕ) (b : Bool) → list_all (λ c. is_some (target_of clafers c)) ks ≡ b → list_all (is_one_of clafers ks) ls ≡ true
       → in_kind (option_map (λ ts. kinds.Nodes ts) (cond b (Some (filter_map (target_of clafers) ks)) None)) (lower.targets_of clafers scopes ls) ≡ true
   found-in ks ls false all h = refl
   found-in ks ls true all h =

@@ -32,8 +32,9 @@ use Rattle.clf_tree.specs.Core as c
 use Rattle.clf_tree.specs.Core.{Core}
 use Rattle.clf_tree.specs.CoreMeaning.{meaning, truth_in, integer_in, those}
 use Rattle.clf_tree.specs.CoreSoundness.{sort, clafers_in, is_entry_of, are_entries}
+use Rattle.int_widths.specs.Narrow.{within_context}
 use Rattle.relational_core.specs.Conditions.{is_typed_law, is_typed_goal}
-use Rattle.relational_core.specs.Lowered.{as_truth, as_number, quant, through, instances_of, children_of, can_hold, lowered, lowered_law, lowered_goal, within_context}
+use Rattle.relational_core.specs.Lowered.{as_truth, as_number, quant, through, instances_of, children_of, can_hold, lowered, lowered_law, lowered_goal}
 use Rattle.relational_core.proofs.Passing.{both, and_parts, and_all, or_false, and_false, and_true, some_passes, filter_all, filter_agree}
 use Rattle.relational_core.proofs.Bindings.{from_end-this, from_end-within, bound_below, pairs-append}
 use Rattle.relational_core.proofs.Possible.{has-possible}

@@ -8,6 +8,7 @@ pub mod InKinds
 pub mod Instances
 pub mod IntervalsByKind
 pub mod Kept
+pub mod Lightness
 pub mod Listed
 pub mod Made
 pub mod NoNumbers
@@ -18,6 +19,8 @@ pub mod Possible
 pub mod Quantifiers
 pub mod Readings
 pub mod Sorts
+pub mod Sizes
 pub mod Sound
 pub mod Whole
+pub mod Weights
 pub mod WidthLaw

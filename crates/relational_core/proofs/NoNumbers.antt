@@ -26,9 +26,10 @@ use Rattle.clf_tree.specs.Intervals.{interval}
 use Rattle.clf_tree.specs.Satisfies.{Law}
 use Rattle.clf_tree.specs.Core.{Core}
 use Rattle.clf_tree.specs.CoreSoundness.{sort, clafers_in}
+use Rattle.int_widths.specs.Narrow.{within_context}
 use Rattle.relational_core.specs.Conditions.{is_typed_law}
 use Rattle.relational_core.specs.Numberless.{has_no_number, refers_to_no_int, is_no_number, some_clafer, no_integers, no_integers_in}
-use Rattle.relational_core.specs.Lowered.{dref, through, same, part, choice, quant, as_truth, lowered, lowered_law, within_context}
+use Rattle.relational_core.specs.Lowered.{dref, through, same, part, choice, quant, as_truth, lowered, lowered_law}
 use Rattle.relational_core.specs.Lowered as lower
 use Rattle.relational_core.proofs.Passing.{and_parts, and_all}
 use Rattle.relational_core.proofs.Made.{all-get, all-reverse}

@@ -37,7 +37,8 @@ use Rattle.clf_tree.specs.Core as c
 use Rattle.clf_tree.specs.Core.{Core}
 use Rattle.clf_tree.specs.CoreMeaning.{meaning, integer_in}
 use Rattle.clf_tree.specs.CoreSoundness.{Sort, Nodes, Number, Truth, sort, clafers_in, is_set, is_number, is_test, is_entry_of, are_entries, is_instance, is_well_made, holds_value, holds_integer, Holds, Sound}
-use Rattle.relational_core.specs.Lowered.{as_truth, as_number, negative, through, dref, follow, same, part, choice, quant, never, every, instances_of, kind_interval, lowered, lowered_law, lowered_goal, within_context}
+use Rattle.int_widths.specs.Narrow.{within_context}
+use Rattle.relational_core.specs.Lowered.{as_truth, as_number, negative, through, dref, follow, same, part, choice, quant, never, every, instances_of, kind_interval, lowered, lowered_law, lowered_goal}
 use Rattle.relational_core.proofs.Passing.{and_parts, and_all, all_implied}
 use Rattle.relational_core.proofs.Bindings.{pairs-append, pairs-end, bound_below}
 use Rattle.relational_core.proofs.Instances.{all_fit}
@@ -73,21 +74,21 @@ nodes-no_integer (Some kinds.Integer) f h = true≢false (sym f)
 nodes-no_integer (Some (kinds.Nodes ks)) f h = true≢false (sym h)
 nodes-no_integer (Some (kinds.Numbers ks)) f h = true≢false (sym h)
 
-set-of : (k : Option Kind) (s : Sort) → fits_nodes k ≡ true → sort_fits k s ≡ true → is_set s ≡ true
+pub set-of : (k : Option Kind) (s : Sort) → fits_nodes k ≡ true → sort_fits k s ≡ true → is_set s ≡ true
 set-of (Some (kinds.Nodes ks)) s f h = h
 set-of None s f h = absurd (true≢false (sym f))
 set-of (Some kinds.Truth) s f h = absurd (true≢false (sym f))
 set-of (Some kinds.Integer) s f h = absurd (true≢false (sym f))
 set-of (Some (kinds.Numbers ks)) s f h = absurd (true≢false (sym f))
 
-sum-nodes : (clafers : List Clafer) (k : Option Kind) → fits_sum clafers k ≡ true → fits_nodes k ≡ true
+pub sum-nodes : (clafers : List Clafer) (k : Option Kind) → fits_sum clafers k ≡ true → fits_nodes k ≡ true
 sum-nodes clafers (Some (kinds.Nodes ks)) f = refl
 sum-nodes clafers None f = f
 sum-nodes clafers (Some kinds.Truth) f = f
 sum-nodes clafers (Some kinds.Integer) f = f
 sum-nodes clafers (Some (kinds.Numbers ks)) f = f
 
-together-nodes : (clafers : List Clafer) (k l : Option Kind) → fit_together clafers k l ≡ true → (fits_nodes k ≡ true) × (fits_nodes l ≡ true)
+pub together-nodes : (clafers : List Clafer) (k l : Option Kind) → fit_together clafers k l ≡ true → (fits_nodes k ≡ true) × (fits_nodes l ≡ true)
 together-nodes clafers (Some (kinds.Nodes ks)) (Some (kinds.Nodes ls)) h = (refl, refl)
 together-nodes clafers (Some (kinds.Nodes ks)) None h = absurd (true≢false (sym h))
 together-nodes clafers (Some (kinds.Nodes ks)) (Some kinds.Truth) h = absurd (true≢false (sym h))
@@ -112,7 +113,7 @@ number-no_test clafers (Some (kinds.Numbers ls)) (Number w) f h = absurd (true�
 number-no_test clafers (Some (kinds.Numbers ls)) Truth f h = absurd (true≢false (sym h))
 
 -- a choice of a number has numbers, a choice of nodes has nodes
-abbrev kind_of_choice : Option Kind → Option Kind → Option Kind
+abbrev pub kind_of_choice : Option Kind → Option Kind → Option Kind
 kind_of_choice k l = option_and_then (λ x. option_map (branch_kind x) l) k
 
 number-left : (clafers : List Clafer) (k l : Option Kind) → fit_choice clafers (kind_of_choice k l) k l ≡ true → is_integer k ≡ true → is_integer (kind_of_choice k l) ≡ true
@@ -137,11 +138,11 @@ number-right clafers k (Some kinds.Truth) f h = absurd (true≢false (sym h))
 number-right clafers k (Some (kinds.Nodes ls)) f h = absurd (true≢false (sym h))
 number-right clafers k (Some (kinds.Numbers ls)) f h = absurd (true≢false (sym h))
 
-abbrev is_nodes : Option Kind → Bool
+abbrev pub is_nodes : Option Kind → Bool
 is_nodes (Some (kinds.Nodes ks)) = true
 is_nodes _ = false
 
-nodes-choice : (k l : Option Kind) → is_nodes (kind_of_choice k l) ≡ true → (fits_nodes k ≡ true) × (fits_nodes l ≡ true)
+pub nodes-choice : (k l : Option Kind) → is_nodes (kind_of_choice k l) ≡ true → (fits_nodes k ≡ true) × (fits_nodes l ≡ true)
 nodes-choice (Some (kinds.Nodes ks)) (Some (kinds.Nodes ls)) h = (refl, refl)
 nodes-choice None l h = absurd (true≢false (sym h))
 nodes-choice (Some j) None h = absurd (true≢false (sym h))
@@ -159,11 +160,11 @@ nodes-choice (Some (kinds.Nodes ks)) (Some kinds.Integer) h = absurd (true≢fal
 nodes-choice (Some (kinds.Nodes ks)) (Some (kinds.Numbers ls)) h = absurd (true≢false (sym h))
 
 -- only two sets of nodes are compared by their nodes
-abbrev is_by_nodes : Option Reading → Bool
+abbrev pub is_by_nodes : Option Reading → Bool
 is_by_nodes (Some (ByNodes left right)) = true
 is_by_nodes _ = false
 
-by-nodes : (clafers : List Clafer) (k l : Option Kind) → is_by_nodes (reading_of clafers k l) ≡ true → (fits_nodes k ≡ true) × (fits_nodes l ≡ true)
+pub by-nodes : (clafers : List Clafer) (k l : Option Kind) → is_by_nodes (reading_of clafers k l) ≡ true → (fits_nodes k ≡ true) × (fits_nodes l ≡ true)
 by-nodes clafers (Some (kinds.Nodes ks)) (Some (kinds.Nodes ls)) h = (refl, refl)
 by-nodes clafers None l h = absurd (true≢false (sym h))
 by-nodes clafers (Some kinds.Truth) None h = absurd (true≢false (sym h))
@@ -217,7 +218,7 @@ module _ (clafers : List Clafer) (scopes : Scopes) (closed : is_closed clafers �
     value = λ entries i bound are. listed entries (clafers_in (sort (lowered clafers scopes t w g))) (nodes (meaning entries (lowered clafers scopes t w g) bound)) (safe clafers scopes entries (all_fit clafers scopes entries i) t w g bound are);
   }
 
-  through-made : (f : Bool) (a : Core) → is_made clafers scopes (clafers_in (sort a)) ≡ true → is_made clafers scopes (clafers_in (sort (through clafers scopes f a))) ≡ true
+  pub through-made : (f : Bool) (a : Core) → is_made clafers scopes (clafers_in (sort a)) ≡ true → is_made clafers scopes (clafers_in (sort (through clafers scopes f a))) ≡ true
   through-made true a h = possible-made clafers scopes (λ d. list_any (λ x. lower.can_reach clafers x d) (clafers_in (sort a)))
   through-made false a h = h
 
@@ -482,14 +483,14 @@ module _ (clafers : List Clafer) (scopes : Scopes) (closed : is_closed clafers �
   quant-sound word.Lone disj n over body g set test s b = (set, test, s, b)
   quant-sound _ disj n over body g set test s b = never-sound g
 
-  nodes-in : (k : Option Kind) (ls : List ℕ) → fits_nodes k ≡ true → in_kind clafers scopes closed inherited k ls ≡ true → list_all (is_one_of clafers (clafers_of k)) ls ≡ true
+  pub nodes-in : (k : Option Kind) (ls : List ℕ) → fits_nodes k ≡ true → in_kind clafers scopes closed inherited k ls ≡ true → list_all (is_one_of clafers (clafers_of k)) ls ≡ true
   nodes-in (Some (kinds.Nodes ks)) ls f h = h
   nodes-in None ls f h = absurd (true≢false (sym f))
   nodes-in (Some kinds.Truth) ls f h = absurd (true≢false (sym f))
   nodes-in (Some kinds.Integer) ls f h = absurd (true≢false (sym f))
   nodes-in (Some (kinds.Numbers ks)) ls f h = absurd (true≢false (sym f))
 
-  within-stands : (over : Tree) (w : Within) (g : List (List ℕ)) (n : ℕ) → Stands w g → fits_nodes (kind clafers over w) ≡ true
+  pub within-stands : (over : Tree) (w : Within) (g : List (List ℕ)) (n : ℕ) → Stands w g → fits_nodes (kind clafers over w) ≡ true
       → Stands (bind_kinds (clafers_of (kind clafers over w)) n w) (g ++ replicate n (clafers_in (sort (lowered clafers scopes over w g))))
   within-stands over w g n st f =
       let ks = clafers_of (kind clafers over w) in

@@ -19,8 +19,9 @@ use Rattle.clf_tree.specs.Typed.{is_typed, fits_truth, fits_number, IsTyped}
 use Rattle.clf_tree.specs.Core.{Core, core}
 use Rattle.clf_tree.specs.CoreMeaning.{meaning, truth_in, integer_in}
 use Rattle.clf_tree.specs.CoreSoundness.{is_instance, IsSoundTruth, IsSoundGoal, Holds}
-use Rattle.relational_core.specs.Conditions.{is_typed_law, is_typed_goal, is_narrow_law, is_narrow_goal, is_narrow_model}
-use Rattle.relational_core.specs.Lowered.{lowered_law, lowered_goal, within_context, instances_of, every}
+use Rattle.int_widths.specs.Narrow.{is_narrow_goal, is_narrow_law, is_narrow_model, within_context}
+use Rattle.relational_core.specs.Conditions.{is_typed_law, is_typed_goal}
+use Rattle.relational_core.specs.Lowered.{lowered_law, lowered_goal, instances_of, every}
 use Rattle.relational_core.specs.Numberless.{has_no_number, is_without_integers, no_integers_in, refers_to_no_int}
 use Rattle.relational_core.proofs.NoNumbers.{law-plain}
 use Rattle.relational_core.proofs.Passing.{and_parts, and_all, map_agree, map_twice, all_both, all_implied}
@@ -78,10 +79,10 @@ each-mapped P f given (a ∷ exprs) (x ∷ xs) same all step =
     tail h = (cc)
 
 module _ (clafers : List Clafer) (scopes : Scopes) (closed : is_closed clafers ≡ true) (once : refers_once clafers ≡ true) (inherited : Inherited clafers) (intervals_hold : IntervalsHold) where
-  top-stands : Stands clafers scopes closed once inherited intervals_hold (within_context None) []
+  pub top-stands : Stands clafers scopes closed once inherited intervals_hold (within_context None) []
   top-stands = record { fit = refl; all_made = refl }
 
-  context-stands : (k : ℕ) → Stands clafers scopes closed once inherited intervals_hold (within_context (Some k)) (instances_of clafers scopes (k ∷ []) ∷ [])
+  pub context-stands : (k : ℕ) → Stands clafers scopes closed once inherited intervals_hold (within_context (Some k)) (instances_of clafers scopes (k ∷ []) ∷ [])
   context-stands k = record {
     fit = and_all (list_all (is_one_of clafers (k ∷ [])) (instances_of clafers scopes (k ∷ []))) true (all-possible clafers scopes (is_one_of clafers (k ∷ [])) (is_one_of clafers (k ∷ [])) (λ d p h. h)) refl;
     all_made = and_all (is_made clafers scopes (instances_of clafers scopes (k ∷ []))) true (possible-made clafers scopes (is_one_of clafers (k ∷ []))) refl;

@@ -1,4 +1,5 @@
 pub mod Choices
 pub mod Conditions
+pub mod Light
 pub mod Lowered
 pub mod Numberless

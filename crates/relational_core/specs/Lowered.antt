@@ -22,13 +22,10 @@ use Rattle.clf_tree.specs.Kinds.{kind, clafers_of, bind_kinds, reading_of}
 use Rattle.clf_tree.specs.Satisfies.{Law}
 use Rattle.clf_tree.specs.Widths.{width}
 use Rattle.clf_tree.specs.Intervals.{interval, between, sum_between, room, members}
+use Rattle.int_widths.specs.Narrow.{within_context}
 use Rattle.clf_tree.specs.Core as c
 use Rattle.clf_tree.specs.Core.{Core}
 use Rattle.clf_tree.specs.CoreSoundness.{sort, clafers_in}
-
--- the kinds at an instance of the context of a constraint, or at top level
-abbrev pub within_context : Option ℕ → Within
-within_context context = record { this = context; bound = [] }
 
 -- in truth position nodes are read as "not empty"
 abbrev pub as_truth : Option Kind → Core → Core

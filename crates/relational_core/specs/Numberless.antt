@@ -13,7 +13,7 @@ use Rattle.clf_tree.specs.Kinds.{kind, clafers_of, bind_kinds}
 use Rattle.clf_tree.specs.Satisfies.{Law, laws_of}
 use Rattle.clf_tree.specs.Core as c
 use Rattle.clf_tree.specs.Core.{Core}
-use Rattle.relational_core.specs.Lowered.{within_context}
+use Rattle.int_widths.specs.Narrow.{within_context}
 
 -- no form of a number, and no comparison of values
 abbrev pub has_no_number : Core → Bool

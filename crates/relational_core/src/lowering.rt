@@ -7,7 +7,8 @@ ghost use Rattle.clf_tree.specs.Tree.{tree};
 ghost use Rattle.clf_tree.specs.Core as Core;
 ghost use Rattle.clf_tree.specs.Core.{core};
 ghost use Rattle.clf_tree.specs.declared.core_expr.Quantifier.TheVariants as quantifier;
-ghost use Rattle.relational_core.specs.Lowered.{lowered_law, lowered_goal, every, instances_of, within_context};
+ghost use Rattle.int_widths.specs.Narrow.{within_context};
+ghost use Rattle.relational_core.specs.Lowered.{lowered_law, lowered_goal, every, instances_of};
 
 use crate::clafer_lists::instances_of;
 use crate::expressions::lower_expr;

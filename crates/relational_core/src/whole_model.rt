@@ -7,7 +7,9 @@ ghost use Rattle.clf_tree.specs.Satisfies.{laws_of, holds, vector_of};
 ghost use Rattle.clf_tree.specs.Core.{core};
 ghost use Rattle.clf_tree.specs.CoreMeaning.{truths_in, goals_in};
 ghost use Rattle.clf_tree.specs.CoreSoundness.{is_instance, IsSoundTruth, IsSoundGoal};
-ghost use Rattle.relational_core.specs.Conditions.{is_narrow_model};
+ghost use Rattle.int_widths.specs.Narrow.{is_narrow_model};
+ghost use Rattle.clf_tree.specs.Lists.{each_pair};
+ghost use Rattle.relational_core.specs.Light.{is_light_truth, is_light_goal};
 ghost use Rattle.relational_core.specs.Numberless.{is_without_integers, has_no_number};
 
 use crate::lowering::lower_all;
@@ -19,7 +21,7 @@ use std::alloc::Global;
 ///
 /// In each instance that is within the scopes, a tree and of the right shape, a truth is true exactly where its constraint holds
 /// for each instance of its context, and a number is the value of its goal. The clafers and widths of each expression hold its
-/// values. Where no clafer refers to integers, no part of a constraint is an integer and each step goes into some clafer, the
+/// values. A truth weighs less than its constraint, and a number no more than its goal. Where no clafer refers to integers, no part of a constraint is an integer and each step goes into some clafer, the
 /// truths have no number and compare no values.
 ///
 /// It requires that the integers of the model need no more than 62 bits, as of a model whose weight is known.
@@ -33,6 +35,8 @@ pub fn lower(alloc: Global, model: &Typed, scopes: &Scopes) -> Result<CoreModel,
     ensures goals { IfOk result (λ r. (entries : Seq Entry) → IsTrue (is_instance model.now.clafers scopes.now entries) → goals_in r entries ≡ vector_of model.now entries) }
     ensures sound_truths { IfOk result (λ r. All (λ x. IsSoundTruth model.now.clafers scopes.now (core x)) r.truths) }
     ensures sound_goals { IfOk result (λ r. All (λ x. IsSoundGoal model.now.clafers scopes.now (core x)) r.goals) }
+    ensures light_truths { IfOk result (λ r. IsTrue (each_pair (is_light_truth model.now.clafers scopes.now) r.truths model.now.rules)) }
+    ensures light_goals { IfOk result (λ r. IsTrue (each_pair (is_light_goal model.now.clafers scopes.now) r.goals model.now.goals)) }
     ensures numberless { IfOk result (λ r. IsTrue (is_without_integers model.now) → IsTrue (list_all (λ x. has_no_number (core x)) r.truths)) }
 {
     intervals_hold();
