@@ -1,3 +1,4 @@
 pub mod Ends
+pub mod Once
 pub mod Runs
 pub mod Steps
