@@ -19,7 +19,7 @@ use Rattle.clf_tree.specs.Meaning as meaning
 use Rattle.clf_tree.specs.Meaning.{Value, Situation, nodes, bind}
 use Rattle.clf_tree.specs.IntervalsHold.{StandsFor, IsSituation}
 use Rattle.clf_tree.specs.KindsHold.{IsSetOf, IsOfKind}
-use Rattle.model_evaluator.proofs.Tests.{and_parts, and_all, or_left, or_right}
+use Rattle.model_evaluator.proofs.TestModels.{and_parts, and_all, or_left, or_right}
 
 some_same : {X : Type 0} (a b : X) → Some a ≡ Some b → a ≡ b
 some_same a b h = cc

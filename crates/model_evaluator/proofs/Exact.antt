@@ -31,7 +31,7 @@ use Rattle.clf_tree.specs.KindsHold.{KindsHold}
 use Rattle.model_evaluator.specs.Computed.{computed, computed_holds}
 use Rattle.model_evaluator.specs.Parts.{stepped, joined, asked}
 use Rattle.model_evaluator.specs.Conditions.{is_narrow_rule, is_narrow_goal}
-use Rattle.model_evaluator.proofs.Tests.{both, and_parts, and_all, four, three, all_parts, all_agree, filter_all, or_left, or_right}
+use Rattle.model_evaluator.proofs.TestModels.{both, and_parts, and_all, four, three, all_parts, all_agree, filter_all, or_left, or_right}
 use Rattle.model_evaluator.proofs.Clamps.{IsSmall, small_in, neg_fits, add_fits, sub_fits, mul_fits}
 use Rattle.model_evaluator.proofs.Same.{same_number, same_equal, same_part, same_taken, same_dref, stepped_is, joined_is, asked_is}
 use Rattle.model_evaluator.proofs.Bound.{stands, inside_quantifier, value_stands, at_top, at_node}

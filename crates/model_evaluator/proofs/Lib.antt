@@ -7,6 +7,6 @@ pub mod Integers
 pub mod Reached
 pub mod Same
 pub mod Settled
-pub mod Tests
+pub mod TestModels
 pub mod Totals
 pub mod Tuples

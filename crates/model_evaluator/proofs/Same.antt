@@ -13,7 +13,7 @@ use Rattle.clf_tree.specs.declared.token.Word.{Word}
 use Rattle.clf_tree.specs.declared.kind.Within.{Within}
 use Rattle.clf_tree.specs.Nodes.{has_node}
 use Rattle.model_evaluator.specs.Parts.{stepped, joined, asked}
-use Rattle.model_evaluator.proofs.Tests.{both}
+use Rattle.model_evaluator.proofs.TestModels.{both}
 
 module _ (clafers : List Clafer) (entries : List Entry) where
   pub same_integers : (v : Value) → integers [] entries v ≡ integers clafers entries v

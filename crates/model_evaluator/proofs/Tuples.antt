@@ -8,7 +8,7 @@ use Rattle.clf_tree.specs.declared.instance.Node.{Node}
 use Rattle.clf_tree.specs.Lists.{tuples, each_two}
 use Rattle.clf_tree.specs.Nodes.{same_node}
 use Rattle.clf_tree.specs.Meaning.{tried, quantified}
-use Rattle.model_evaluator.proofs.Tests.{both, and_parts, and_all}
+use Rattle.model_evaluator.proofs.TestModels.{both, and_parts, and_all}
 
 all-append : {X : Type 0} (P : X → Type 0) (xs ys : List X) → AllByRecursion P xs → AllByRecursion P ys → AllByRecursion P (xs ++ ys)
 all-append P [] ys h k = k

@@ -5,7 +5,7 @@ use Rattle.clf_tree.specs.Satisfies.{outside}
 use Rattle.clf_tree.specs.Tree.{tree}
 use Rattle.model_evaluator.specs.Computed.{computed}
 use Rattle.model_evaluator.specs.Conditions.{is_narrow_rule, is_narrow_goal}
-use Rattle.model_evaluator.proofs.Tests.{and_parts}
+use Rattle.model_evaluator.proofs.TestModels.{and_parts}
 use Rattle.model_evaluator.proofs.Exact.{goals_same}
 use Rattle.model_evaluator.proofs.evaluator.goals_in.Goals as goal
 

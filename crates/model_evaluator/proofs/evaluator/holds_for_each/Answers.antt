@@ -5,7 +5,7 @@ use Rattle.clf_tree.specs.Meaning.{is_true}
 use Rattle.clf_tree.specs.Satisfies.{at_instance}
 use Rattle.clf_tree.specs.Tree.{tree}
 use Rattle.model_evaluator.specs.Computed.{computed}
-use Rattle.model_evaluator.proofs.Tests.{each_filtered}
+use Rattle.model_evaluator.proofs.TestModels.{each_filtered}
 use Rattle.model_evaluator.proofs.evaluator.holds_for_each.Goals as goal
 
 pub returns : goal.returns

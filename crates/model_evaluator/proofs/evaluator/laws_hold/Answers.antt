@@ -3,7 +3,7 @@ use Rattle.std.specs.List.{list_all}
 use Rattle.clf_tree.specs.Tree.{tree}
 use Rattle.model_evaluator.specs.Computed.{computed_holds}
 use Rattle.model_evaluator.specs.Conditions.{is_narrow_rule, is_narrow_goal}
-use Rattle.model_evaluator.proofs.Tests.{and_parts}
+use Rattle.model_evaluator.proofs.TestModels.{and_parts}
 use Rattle.model_evaluator.proofs.Exact.{rules_same}
 use Rattle.model_evaluator.proofs.evaluator.laws_hold.Goals as goal
 
