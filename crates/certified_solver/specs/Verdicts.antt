@@ -1,5 +1,5 @@
 -- What the answers of a solver say.
-use Rattle.std.specs.Prelude.{ℕ, ◌≡◌, List, All, length}
+use Rattle.std.specs.Prelude.{ℕ, ◌≡◌, List, Option, Some, None, All, length}
 use Rattle.clause_store.specs.declared.clause.Literal.{Literal}
 use Rattle.clause_store.specs.declared.derivation.Chain.{Chain}
 use Rattle.clause_store.specs.Literals.{HasVariablesBelow}
@@ -15,6 +15,11 @@ pub record IsRefutation (given : List (List Literal)) (chains : List Chain) : Ty
   pub refutes : Refutes given chains
   pub within : (n : ℕ) → All (HasVariablesBelow n) given → IsWithin n given chains
 
+-- what a checker makes of chains: a refutation with these very chains, or nothing, where they refute nothing
+abbrev pub IsChecked : List (List Literal) → List Chain → Option (List Chain) → Type 0
+IsChecked given chains (Some accepted) = IsRefutation given accepted × (accepted ≡ chains)
+IsChecked given chains None = Refutes given chains → ⊥
+
 -- as many lawful chains as the budget allows, each with a new result
 pub record IsSpent (given : List (List Literal)) (chains : List Chain) (budget : ℕ) : Type 0 where
   pub lawful : IsLawful given chains
@@ -23,11 +28,11 @@ pub record IsSpent (given : List (List Literal)) (chains : List Chain) (budget :
 
 abbrev pub IsVerdict : List (List Literal) → ℕ → Verdict → Type 0
 IsVerdict given budget (Yes values) = SatisfiesAll (assignment_of values) given
-IsVerdict given budget (No derivation) = IsRefutation given derivation.chains
+IsVerdict given budget (No refutation) = IsRefutation given refutation
 IsVerdict given budget (Spent derivation) = IsSpent given derivation.chains budget
 
 -- the answer is Yes or No
 abbrev pub IsDecided : Verdict → Type 0
 IsDecided (Yes values) = Unit {0}
-IsDecided (No derivation) = Unit {0}
+IsDecided (No refutation) = Unit {0}
 IsDecided (Spent derivation) = ⊥

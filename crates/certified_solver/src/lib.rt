@@ -2,18 +2,19 @@
 //! that a checker has accepted.
 #![tactic(auto)]
 
+mod refutation;
+#[cfg(test)]
+mod tests;
+
 ghost use Rattle.std.specs.Prelude.{ℕ, ◌≡◌, ◌+◌, ◌<◌, ◌≤◌, ◌^◌, All, length, IfOk};
 ghost use Rattle.clause_store.specs.Literals.{HasVariablesBelow};
 ghost use Rattle.clause_store.specs.Resolution.{Refutes};
 ghost use Rattle.certified_solver.specs.Verdicts.{IsVerdict, IsDecided, IsRefutation};
 
-#[cfg(test)]
-mod tests;
-
 use cdcl_search::{Ended, Search};
 use clause_store::{Clauses, Derivation};
 use clf_base::{List, NoMemory};
-use proof_checker::Checker;
+pub use refutation::Refutation;
 use search_guide::Guide;
 use std::alloc::Global;
 
@@ -22,8 +23,8 @@ use std::alloc::Global;
 pub enum Verdict {
     /// These values of the variables satisfy the clauses.
     Yes(List<bool>),
-    /// This derivation refutes the clauses, and the checker has accepted it.
-    No(Derivation),
+    /// No values do: this refutes the clauses.
+    No(Refutation),
     /// The budget is spent on the chains of this derivation, each with a new result.
     Spent(Derivation),
 }
@@ -50,26 +51,24 @@ pub fn decide(
             Ok(Verdict::Yes(values))
         }
         Ended::Refuted => {
-            let derivation = accepted(alloc, clauses, search.into_derivation())?;
-            Ok(Verdict::No(derivation))
+            let refutation = accepted(alloc, clauses, search.into_derivation())?;
+            Ok(Verdict::No(refutation))
         }
         Ended::Spent => Ok(Verdict::Spent(search.into_derivation())),
     }
 }
 
-/// A derivation that refutes clauses, once the checker has accepted it. The checker has no other answer,
-/// since the derivation speaks of no variable that the clauses don't have.
+/// What the checker makes of a derivation that refutes the clauses: it has no other answer.
 fn accepted(
     alloc: Global,
     clauses: &Clauses,
     derivation: Derivation,
-) -> Result<Derivation, NoMemory>
+) -> Result<Refutation, NoMemory>
     requires { Refutes clauses.now.clauses derivation.chains }
-    ensures { IfOk result (λ accepted. IsRefutation clauses.now.clauses accepted.chains) }
+    ensures { IfOk result (λ refutation. IsRefutation clauses.now.clauses refutation) }
 {
-    let mut checker = Checker::open(alloc, clauses.variables())?;
-    if checker.accepts(clauses, &derivation) {
-        return Ok(derivation);
+    match Refutation::check(alloc, clauses, derivation)? {
+        Some(refutation) => Ok(refutation),
+        None => unreachable!(),
     }
-    unreachable!()
 }

@@ -1,6 +1,6 @@
-use crate::{Verdict, decide};
+use crate::{Refutation, Verdict, decide};
 use cdcl_search::{Ended, Search};
-use clause_store::{Clause, Clauses, Literal, is_ascending};
+use clause_store::{Clause, Clauses, Derivation, Literal, is_ascending};
 use clf_base::List;
 use search_guide::Guide;
 use std::alloc::Global;
@@ -66,6 +66,17 @@ fn small_stores(rt: HostRuntime) -> Result<(), Fail> {
     assert!(rt; matches!(nothing, Verdict::Yes(_)));
     let false_at_once = verdict(alloc, &store(alloc, &[&[]])?, 1, &guide)?;
     assert!(rt; matches!(false_at_once, Verdict::No(_)));
+    Ok(())
+}
+
+#[test]
+fn only_a_derivation_that_refutes_is_a_refutation(rt: HostRuntime) -> Result<(), Fail> {
+    let alloc = rt.alloc();
+    let nothing = Derivation {
+        chains: List::new(alloc),
+    };
+    let refutation = Refutation::check(alloc, &store(alloc, &[&[0], &[2]])?, nothing)?;
+    assert!(rt; refutation.is_none());
     Ok(())
 }
 

@@ -1,9 +1,6 @@
 pub mod Words
-pub mod Place
-pub mod Trial
 pub mod Report
 pub mod Refusals
-pub mod Reading
 pub mod Model
 pub mod Outcome
 pub mod Run

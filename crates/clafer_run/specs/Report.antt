@@ -1,42 +1,36 @@
 -- The reports.
-use Rattle.std.specs.Prelude.{ℕ, zero, suc, List, [], ◌∷◌, ◌++◌, length, slice_get, codes, decimal, Option, Some, None}
-use Rattle.std.specs.Option.{option_map_or}
-use Rattle.std.specs.List.{flat_map, range_with_len}
+use Rattle.std.specs.Prelude.{ℕ, not, List, [], ◌∷◌, ◌++◌, length, count_by, codes, decimal}
+use Rattle.std.specs.Fmt.{signed_decimal}
+use Rattle.std.specs.List.{flat_map, filter, range_with_len}
 use Rattle.clf_tree.specs.declared.model.Clafer.{Clafer}
 use Rattle.clf_tree.specs.declared.model.Model.{Model}
 use Rattle.clf_tree.specs.declared.instance.Entry.{Entry}
-
--- the names from a top-level clafer down to this one, with `.` between two of them; n bounds the steps upwards
-abbrev pub path_within : List Clafer → ℕ → ℕ → List ℕ
-path_within clafers zero c = []
-path_within clafers (suc n) c =
-    option_map_or (λ k. option_map_or (λ p. path_within clafers n p ++ 46 ∷ []) k.parent [] ++ k.title.name) (slice_get clafers c) []
-
--- two blanks for each clafer above
-abbrev pub indent_within : List Clafer → ℕ → ℕ → List ℕ
-indent_within clafers zero c = []
-indent_within clafers (suc n) c =
-    option_map_or (λ k. option_map_or (λ p. codes "  " ++ indent_within clafers n p) k.parent []) (slice_get clafers c) []
+use Rattle.clf_tree.specs.declared.scopes.Scopes.{Scopes}
+use Rattle.clf_tree.specs.Hierarchy.{is_concrete}
+use Rattle.clf_tree.specs.Nodes.{scope_of}
+use Rattle.instance_text.specs.Names.{path_of}
+use Rattle.instance_text.specs.Show.{show}
 
 -- the path of a clafer and its scope
-abbrev pub scope_line : List Clafer → ℕ → List ℕ
-scope_line clafers c = path_within clafers (length clafers) c ++ codes " 1\n"
+abbrev pub scope_line : List Clafer → Scopes → ℕ → List ℕ
+scope_line clafers scopes c = path_of clafers c ++ codes " " ++ decimal (scope_of scopes c) ++ codes "\n"
 
--- the scopes of all clafers, and the range of integers
-abbrev pub head : List Clafer → List ℕ
-head clafers = codes "scopes " ++ decimal (length clafers) ++ codes "\n" ++ flat_map (scope_line clafers) (range_with_len 0 (length clafers)) ++ codes "ints -2048..2047\n"
+abbrev pub scope_lines : List Clafer → Scopes → List ℕ
+scope_lines clafers scopes = flat_map (scope_line clafers scopes) (filter (is_concrete clafers) (range_with_len 0 (length clafers)))
 
-abbrev pub name_of : List Clafer → ℕ → List ℕ
-name_of clafers c = option_map_or (λ k. k.title.name) (slice_get clafers c) []
+-- how many concrete clafers there are, their scopes, and the range of integers
+abbrev pub range_line : Scopes → List ℕ
+range_line scopes = codes "ints " ++ signed_decimal scopes.low ++ codes ".." ++ signed_decimal scopes.high ++ codes "\n"
 
--- a node, two blanks deeper than its parent
-abbrev pub entry_line : List Clafer → Entry → List ℕ
-entry_line clafers e =
-    indent_within clafers (length clafers) e.node.clafer ++ name_of clafers e.node.clafer ++ codes "$" ++ decimal e.node.number ++ codes "\n"
+abbrev pub count_line : List Clafer → List ℕ
+count_line clafers = codes "scopes " ++ decimal (count_by (λ k. not k.is_abstract) clafers) ++ codes "\n"
 
--- the nodes in the order of the model, in which each stands before those below it
-abbrev pub instance_report : Model → List Entry → List ℕ
-instance_report model entries = head model.clafers ++ codes "instance\n" ++ flat_map (entry_line model.clafers) entries
+abbrev pub head : List Clafer → Scopes → List ℕ
+head clafers scopes = count_line clafers ++ scope_lines clafers scopes ++ range_line scopes
 
-abbrev pub no_instance_report : Model → List ℕ
-no_instance_report model = head model.clafers ++ codes "no instance\n"
+-- the head, then the trees of the instance
+abbrev pub instance_report : Model → Scopes → List Entry → List ℕ
+instance_report model scopes entries = head model.clafers scopes ++ codes "instance\n" ++ show model entries
+
+abbrev pub no_instance_report : Model → Scopes → List ℕ
+no_instance_report model scopes = head model.clafers scopes ++ codes "no instance\n"

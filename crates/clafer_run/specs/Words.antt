@@ -1,11 +1,10 @@
--- What the words of the command line ask for.
-use Rattle.std.specs.Prelude.{◌≡◌, ℕ, List, [], ◌∷◌, codes}
-use Rattle.clafer_run.specs.declared.words.Request.{Request}
-use Rattle.clafer_run.specs.declared.words.Request.TheVariants as request
+-- Words that have a reading.
+use Rattle.std.specs.Prelude.{◌≡◌, ℕ, List, Some}
+use Rattle.command_words.specs.Words.{reading}
+use Rattle.command_words.specs.declared.reading.Request.{Request}
 
--- the one word `one`
 abbrev pub IsReading : List (List ℕ) → Request → Type 0
-IsReading words wanted = (words ≡ codes "one" ∷ []) × (wanted ≡ request.One)
+IsReading words wanted = reading words ≡ Some wanted
 
 abbrev pub HasReading : List (List ℕ) → Type 0
 HasReading words = (wanted : Request) × IsReading words wanted

@@ -1,19 +1,17 @@
 //! The answer to a model text.
 
-ghost use Rattle.std.specs.Prelude.{◌≡◌, ◌≤◌, length, IfOk};
+ghost use Rattle.std.specs.Prelude.{◌≡◌, ◌≤◌, length, IfOk, IsTrue};
 ghost use Rattle.clf_base.specs.Status.{number_of};
-ghost use Rattle.first_form.specs.FirstModel.{first_model};
-ghost use Rattle.first_form.specs.FirstShape.{IsFirstShape};
-ghost use Rattle.clafer_run.specs.Model.{ModelOutcome, FormOutcome, IsAnswerOf, IsTold, optional_count};
+ghost use Rattle.feature_trial.specs.FirstShape as shape;
+ghost use Rattle.clafer_run.specs.Model.{ModelOutcome, ReadOutcome, IsAnswerOf, IsTold, optional_count};
 
-use crate::choices::trial;
-use crate::reading::read_module;
 use crate::refusals::{error_line, nowhere};
 use crate::report::{instance_report, no_instance_report};
 use crate::{LIMIT, Request};
 use clf_base::{Fault, List, NoMemory, Refusal, Status};
-use clf_tree::{Model, Module};
-use first_form::first_model;
+use clf_tree::Model;
+use feature_trial::{has_first_shape, trial};
+use model_reader::{Read, read_model};
 use std::alloc::Global;
 
 /// The most optional features whose choices are tried.
@@ -28,15 +26,14 @@ pub struct Answer {
 
 /// The answer to a text within the limit.
 #[tactic(auto, unfolding(crate::specs::Model::ModelOutcome))]
-pub(crate) fn answer_to(alloc: Global, request: Request, text: &[u8]) -> Result<Answer, NoMemory>
+pub(crate) fn answer_to(alloc: Global, request: &Request, text: &[u8]) -> Result<Answer, NoMemory>
     requires { length text.now ≤ LIMIT }
-    ensures outcome { IfOk result (λ answer. ModelOutcome request text.now answer.output answer.status) }
+    ensures outcome { IfOk result (λ answer. ModelOutcome request.now text.now answer.output answer.status) }
     ensures in_range { IfOk result (λ answer. number_of answer.status ≤ 4) }
 {
-    let Request::One = request;
-    match read_module(alloc, text) {
+    match read_model(alloc, text, &request.given) {
         Ok(read) => {
-            let answer = answer_of_module(alloc, &read)?;
+            let answer = answer_of_read(alloc, &read)?;
             Ok(answer)
         }
         Err(Fault::Refused(refusal)) => {
@@ -48,7 +45,7 @@ pub(crate) fn answer_to(alloc: Global, request: Request, text: &[u8]) -> Result<
 }
 
 /// The answer to a refusal.
-fn told(alloc: Global, refusal: Refusal) -> Result<Answer, NoMemory>
+pub(crate) fn told(alloc: Global, refusal: Refusal) -> Result<Answer, NoMemory>
     ensures told { IfOk result (λ answer. IsTold refusal answer.output answer.status) }
     ensures in_range { IfOk result (λ answer. number_of answer.status ≤ 4) }
 {
@@ -59,29 +56,27 @@ fn told(alloc: Global, refusal: Refusal) -> Result<Answer, NoMemory>
     })
 }
 
-/// The answer to a module.
-fn answer_of_module(alloc: Global, text: &Module) -> Result<Answer, NoMemory>
-    ensures outcome { IfOk result (λ answer. FormOutcome (first_model text.now) answer.output answer.status) }
+/// The answer to a model that was read.
+fn answer_of_read(alloc: Global, read: &Read) -> Result<Answer, NoMemory>
+    ensures outcome { IfOk result (λ answer. ReadOutcome read.now answer.output answer.status) }
     ensures in_range { IfOk result (λ answer. number_of answer.status ≤ 4) }
 {
-    match first_model(alloc, text)? {
-        Some(model) => {
-            let answer = answer_of(alloc, &model)?;
-            Ok(answer)
-        }
-        None => {
-            let answer = told(alloc, nowhere(99, 0))?;
-            Ok(answer)
-        }
+    if has_first_shape(read) {
+        let answer = answer_of(alloc, read)?;
+        Ok(answer)
+    } else {
+        let answer = told(alloc, nowhere(99, 0))?;
+        Ok(answer)
     }
 }
 
-/// The answer to a model, whichever module of the first form has it.
-fn answer_of(alloc: Global, model: &Model) -> Result<Answer, NoMemory>
-    requires { IsFirstShape model.now }
-    ensures outcome { IfOk result (λ answer. IsAnswerOf model.now answer.output answer.status) }
+/// The answer to a model of the first shape.
+fn answer_of(alloc: Global, read: &Read) -> Result<Answer, NoMemory>
+    requires { IsTrue (shape.has_first_shape read.now.model read.now.scopes) }
+    ensures outcome { IfOk result (λ answer. IsAnswerOf read.now answer.output answer.status) }
     ensures in_range { IfOk result (λ answer. number_of answer.status ≤ 4) }
 {
+    let model = read.model.model();
     let optional = optional_count(model);
     if optional > MOST_OPTIONAL {
         let output = error_line(alloc, nowhere(95, optional as u64))?;
@@ -90,16 +85,16 @@ fn answer_of(alloc: Global, model: &Model) -> Result<Answer, NoMemory>
             output,
         });
     }
-    match trial(alloc, model)? {
-        Some(entries) => {
-            let output = instance_report(alloc, model, &entries)?;
+    match trial(alloc, read)? {
+        Some(instance) => {
+            let output = instance_report(alloc, model, &read.scopes, &instance)?;
             Ok(Answer {
                 status: Status::Done,
                 output,
             })
         }
         None => {
-            let output = no_instance_report(alloc, model)?;
+            let output = no_instance_report(alloc, model, &read.scopes)?;
             Ok(Answer {
                 status: Status::NoInstance,
                 output,

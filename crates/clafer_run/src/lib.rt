@@ -2,27 +2,17 @@
 #![tactic(auto)]
 
 mod answer;
-mod choices;
 mod input;
-mod nodes;
 mod output;
-mod place;
-mod reading;
 mod refusals;
 mod report;
 mod respond;
-mod rules;
-mod shape;
 mod top_call;
-mod truth;
-mod words;
 
 pub use answer::Answer;
+pub use command_words::{Request, words_of};
+pub use model_reader::LIMIT;
 pub use top_call::run;
-pub use words::{Request, words_of};
-
-/// The most bytes that a model text may have.
-pub const LIMIT: usize = 1_048_576;
 
 #[cfg(test)]
 mod tests;

@@ -10,7 +10,7 @@ use itoa::Buffer;
 use std::alloc::Global;
 
 /// What is wrong, by its code.
-pub static REASONS: [(u16, &[u8]); 11] = [
+pub static REASONS: [(u16, &[u8]); 39] = [
     (10, b"text too long"),
     (11, b"text is not UTF-8"),
     (20, b"no token"),
@@ -20,6 +20,34 @@ pub static REASONS: [(u16, &[u8]); 11] = [
     (40, b"unexpected token"),
     (41, b"nested too deep"),
     (42, b"word is left out"),
+    (50, b"low bound above high"),
+    (51, b"name used twice"),
+    (52, b"abstract clafer is nested"),
+    (53, b"only at top level"),
+    (60, b"super is not abstract"),
+    (61, b"inheritance cycle"),
+    (62, b"name not found"),
+    (63, b"name is ambiguous"),
+    (64, b"clafer contains itself"),
+    (65, b"second reference"),
+    (66, b"no such node"),
+    (67, b"target not found"),
+    (68, b"inherited name used again"),
+    (70, b"truth value expected"),
+    (71, b"integer expected"),
+    (72, b"nodes expected"),
+    (73, b"no integer target"),
+    (74, b"operands share no clafer"),
+    (75, b"no single reference"),
+    (80, b"scope of unknown clafer"),
+    (81, b"scope of abstract clafer"),
+    (82, b"scope given twice"),
+    (83, b"scope above 256"),
+    (84, b"scopes above 2048"),
+    (85, b"integer range refused"),
+    (90, b"integer interval too wide"),
+    (91, b"model too heavy"),
+    (92, b"too many goals"),
     (95, b"too many optional clafers"),
     (99, b"form not built yet"),
 ];

@@ -1,151 +1,130 @@
 //! Reports.
 
-ghost use Rattle.std.specs.Prelude.{◌≡◌, [], ◌∷◌, ◌++◌, IfOk, OnOk};
-ghost use Rattle.std.specs.Option.{option_map_or};
+ghost use Rattle.std.specs.Prelude.{◌≡◌, ◌++◌, not, count_by, IfOk, OnOk};
+ghost use Rattle.clf_tree.specs.Nodes as nodes;
+ghost use Rattle.clf_tree.specs.Hierarchy as hierarchy;
 ghost use Rattle.clafer_run.specs.Report as spec;
 
 use clf_base::{List, NoMemory};
-use clf_tree::{Clafer, Entry, Model};
+use clf_tree::{Clafer, Instance, Model, Scopes};
+use instance_text::{push_path, show};
 use itoa::Buffer;
 use std::alloc::Global;
 
-/// The names from a top-level clafer down to this one, in at most so many steps.
-#[cycle(path)]
-fn push_path(
-    text: &mut List<u8>,
-    clafers: &[Clafer],
-    steps: usize,
-    clafer: usize,
-) -> Result<(), NoMemory>
-    ensures { OnOk result (text.new ≡ text.old ++ spec.path_within clafers.now steps clafer) }
+fn is_concrete(clafers: &[Clafer], clafer: usize) -> bool
+    ensures { result ≡ hierarchy.is_concrete clafers.now clafer }
 {
-    if steps == 0 {
-        return Ok(());
-    }
     match clafers.get(clafer) {
-        None => Ok(()),
-        Some(found) => {
-            push_above(text, clafers, steps - 1, found.parent)?;
-            text.extend(found.title.name.as_slice())?;
-            Ok(())
-        }
+        Some(found) => !found.is_abstract,
+        None => false,
     }
 }
 
-/// The path of a parent, where there is one, and a point.
-#[cycle(path)]
-fn push_above(
-    text: &mut List<u8>,
-    clafers: &[Clafer],
-    steps: usize,
-    parent: Option<u32>,
-) -> Result<(), NoMemory>
-    ensures { OnOk result (text.new ≡ text.old ++ option_map_or (λ p. spec.path_within clafers.now steps p ++ 46 ∷ []) parent []) }
+fn scope_of(scopes: &Scopes, clafer: usize) -> u32
+    ensures { result ≡ nodes.scope_of scopes.now clafer }
 {
-    match parent {
-        None => Ok(()),
-        Some(parent) => {
-            push_path(text, clafers, steps, parent as usize)?;
-            text.push(b'.')?;
-            Ok(())
-        }
-    }
-}
-
-/// Two blanks for each clafer above this one, in at most so many steps.
-fn push_indent(
-    text: &mut List<u8>,
-    clafers: &[Clafer],
-    steps: usize,
-    clafer: usize,
-) -> Result<(), NoMemory>
-    ensures { OnOk result (text.new ≡ text.old ++ spec.indent_within clafers.now steps clafer) }
-{
-    if steps == 0 {
-        return Ok(());
-    }
-    match clafers.get(clafer) {
-        None => Ok(()),
-        Some(found) => match found.parent {
-            None => Ok(()),
-            Some(parent) => {
-                text.extend(b"  ")?;
-                push_indent(text, clafers, steps - 1, parent as usize)?;
-                Ok(())
-            }
-        },
+    match scopes.of.as_slice().get(clafer) {
+        Some(scope) => *scope,
+        None => 0,
     }
 }
 
 /// A line of the table of scopes: the path of a clafer and its scope.
-fn push_scope(text: &mut List<u8>, clafers: &[Clafer], clafer: usize) -> Result<(), NoMemory>
-    ensures { OnOk result (text.new ≡ text.old ++ spec.scope_line clafers.now clafer) }
+fn push_scope(
+    text: &mut List<u8>,
+    clafers: &[Clafer],
+    scopes: &Scopes,
+    clafer: usize,
+) -> Result<(), NoMemory>
+    ensures { OnOk result (text.new ≡ text.old ++ spec.scope_line clafers.now scopes.now clafer) }
 {
+    let mut buffer = Buffer::new();
     push_path(text, clafers, clafers.len(), clafer)?;
-    text.extend(b" 1\n")?;
+    text.extend(b" ")?;
+    text.extend(buffer.format(scope_of(scopes, clafer)).as_bytes())?;
+    text.extend(b"\n")?;
+    Ok(())
+}
+
+/// The lines of all concrete clafers.
+fn push_scopes(text: &mut List<u8>, clafers: &[Clafer], scopes: &Scopes) -> Result<(), NoMemory>
+    ensures { OnOk result (text.new ≡ text.old ++ spec.scope_lines clafers.now scopes.now) }
+{
+    for clafer in 0..clafers.len() {
+        if is_concrete(clafers, clafer) {
+            push_scope(text, clafers, scopes, clafer)?;
+        }
+    }
+    Ok(())
+}
+
+/// The range of integers.
+fn push_range(text: &mut List<u8>, scopes: &Scopes) -> Result<(), NoMemory>
+    ensures { OnOk result (text.new ≡ text.old ++ spec.range_line scopes.now) }
+{
+    let mut buffer = Buffer::new();
+    text.extend(b"ints ")?;
+    text.extend(buffer.format(scopes.low).as_bytes())?;
+    text.extend(b"..")?;
+    text.extend(buffer.format(scopes.high).as_bytes())?;
+    text.extend(b"\n")?;
+    Ok(())
+}
+
+/// How many clafers are concrete.
+fn concrete_count(clafers: &[Clafer]) -> usize
+    ensures { result ≡ count_by (λ k. not k.is_abstract) clafers.now }
+{
+    clafers.iter().filter(|clafer| !clafer.is_abstract).count()
+}
+
+/// The number of scopes.
+fn push_count(text: &mut List<u8>, clafers: &[Clafer]) -> Result<(), NoMemory>
+    ensures { OnOk result (text.new ≡ text.old ++ spec.count_line clafers.now) }
+{
+    let mut buffer = Buffer::new();
+    text.extend(b"scopes ")?;
+    text.extend(buffer.format(concrete_count(clafers)).as_bytes())?;
+    text.extend(b"\n")?;
     Ok(())
 }
 
 /// What stands at the head of each report: the table of scopes and the range of integers.
-fn head(alloc: Global, clafers: &[Clafer]) -> Result<List<u8>, NoMemory>
-    ensures { IfOk result (λ text. text ≡ spec.head clafers.now) }
+fn head(alloc: Global, clafers: &[Clafer], scopes: &Scopes) -> Result<List<u8>, NoMemory>
+    ensures { IfOk result (λ text. text ≡ spec.head clafers.now scopes.now) }
 {
-    let mut buffer = Buffer::new();
-    let mut text = List::from_slice(alloc, b"scopes ")?;
-    text.extend(buffer.format(clafers.len()).as_bytes())?;
-    text.extend(b"\n")?;
-    for clafer in 0..clafers.len() {
-        push_scope(&mut text, clafers, clafer)?;
-    }
-    text.extend(b"ints -2048..2047\n")?;
+    let mut text = List::new(alloc);
+    push_count(&mut text, clafers)?;
+    push_scopes(&mut text, clafers, scopes)?;
+    push_range(&mut text, scopes)?;
     Ok(text)
-}
-
-/// The name of an entry's clafer.
-fn push_name(text: &mut List<u8>, clafers: &[Clafer], clafer: usize) -> Result<(), NoMemory>
-    ensures { OnOk result (text.new ≡ text.old ++ spec.name_of clafers.now clafer) }
-{
-    match clafers.get(clafer) {
-        Some(found) => text.extend(found.title.name.as_slice()),
-        None => Ok(()),
-    }
-}
-
-/// The line of an entry.
-fn push_entry(text: &mut List<u8>, clafers: &[Clafer], entry: &Entry) -> Result<(), NoMemory>
-    ensures { OnOk result (text.new ≡ text.old ++ spec.entry_line clafers.now entry.now) }
-{
-    let mut buffer = Buffer::new();
-    push_indent(text, clafers, clafers.len(), entry.node.clafer as usize)?;
-    push_name(text, clafers, entry.node.clafer as usize)?;
-    text.extend(b"$")?;
-    text.extend(buffer.format(entry.node.number).as_bytes())?;
-    text.extend(b"\n")?;
-    Ok(())
 }
 
 /// The report of an instance.
 pub(crate) fn instance_report(
     alloc: Global,
     model: &Model,
-    entries: &List<Entry>,
+    scopes: &Scopes,
+    instance: &Instance,
 ) -> Result<List<u8>, NoMemory>
-    ensures { IfOk result (λ text. text ≡ spec.instance_report model.now entries.now) }
+    ensures { IfOk result (λ text. text ≡ spec.instance_report model.now scopes.now instance.now.entries) }
 {
-    let clafers = model.clafers.as_slice();
-    let mut text = head(alloc, clafers)?;
+    let trees = show(alloc, model, instance)?;
+    let mut text = head(alloc, model.clafers.as_slice(), scopes)?;
     text.extend(b"instance\n")?;
-    for entry in entries.as_slice() {
-        push_entry(&mut text, clafers, entry)?;
-    }
+    text.extend(trees.as_slice())?;
     Ok(text)
 }
 
 /// The report that there is no instance.
-pub(crate) fn no_instance_report(alloc: Global, model: &Model) -> Result<List<u8>, NoMemory>
-    ensures { IfOk result (λ text. text ≡ spec.no_instance_report model.now) }
+pub(crate) fn no_instance_report(
+    alloc: Global,
+    model: &Model,
+    scopes: &Scopes,
+) -> Result<List<u8>, NoMemory>
+    ensures { IfOk result (λ text. text ≡ spec.no_instance_report model.now scopes.now) }
 {
-    let mut text = head(alloc, model.clafers.as_slice())?;
+    let mut text = head(alloc, model.clafers.as_slice(), scopes)?;
     text.extend(b"no instance\n")?;
     Ok(text)
 }

@@ -4,11 +4,11 @@ ghost use Rattle.clf_base.specs.Causes.{Rose};
 ghost use Rattle.clafer_run.specs.Words.{ReadsSource};
 ghost use Rattle.clafer_run.specs.Run.{IsAnswer, ReadsWithinLimit};
 
-use crate::answer::{Answer, answer_to};
+use crate::answer::{Answer, answer_to, told};
 use crate::input::{Stop, Text, read_text};
-use crate::refusals::{error_line, nowhere};
-use crate::words::words_of;
+use crate::refusals::nowhere;
 use clf_base::{List, Source, Status};
+use command_words::words_of;
 use std::alloc::Global;
 
 /// The output and the status for the words and the source's text.
@@ -32,10 +32,7 @@ pub(crate) fn respond<S: Source>(
         });
     };
     match read_text(alloc, source)? {
-        Text::TooLong => Ok(Answer {
-            status: Status::Refused,
-            output: error_line(alloc, nowhere(10, 1_048_577))?,
-        }),
-        Text::Whole(text) => Ok(answer_to(alloc, request, text.as_slice())?),
+        Text::TooLong => Ok(told(alloc, nowhere(10, 1_048_577))?),
+        Text::Whole(text) => Ok(answer_to(alloc, &request, text.as_slice())?),
     }
 }

@@ -21,7 +21,7 @@ struct Case {
     output: &'static [u8],
 }
 
-const CASES: [Case; 14] = [
+const CASES: [Case; 18] = [
     // the empty text has the empty instance
     Case {
         words: &["one"],
@@ -76,12 +76,39 @@ const CASES: [Case; 14] = [
         status: Status::Done,
         output: b"scopes 2\na 1\nb 1\nints -2048..2047\ninstance\na$0\nb$0\n",
     },
-    // a name that stands under another feature
+    // a name two levels down
     Case {
         words: &["one"],
         text: b"a\n    b ?\n        c ?\n    [ c ]\n",
+        status: Status::Done,
+        output: b"scopes 3\na 1\na.b 1\na.b.c 1\nints -2048..2047\ninstance\na$0\n  b$0\n    c$0\n",
+    },
+    // a name that nothing has
+    Case {
+        words: &["one"],
+        text: b"a\n    [ b ]\n",
+        status: Status::Refused,
+        output: b"error E062 2:7 0 name not found\n",
+    },
+    // a clafer with more than one instance
+    Case {
+        words: &["one"],
+        text: b"a *\n",
         status: Status::Refused,
         output: b"error E099 0:0 0 form not built yet\n",
+    },
+    // a given range of integers, and a given scope
+    Case {
+        words: &["--scope", "a=1", "--int-low=-5", "one", "--int-high", "9"],
+        text: b"a ?\n[ a ]\n",
+        status: Status::Done,
+        output: b"scopes 1\na 1\nints -5..9\ninstance\na$0\n",
+    },
+    Case {
+        words: &["one", "--scope=b=1"],
+        text: b"a ?\n",
+        status: Status::Refused,
+        output: b"error E080 0:0 1 scope of unknown clafer\n",
     },
     // bytes that are no text
     Case {

@@ -1,3 +1,5 @@
+pub mod Adding
+pub mod Filling
 pub mod Noting
 pub mod Spelling
 pub mod Told

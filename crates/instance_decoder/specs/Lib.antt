@@ -1,2 +1,4 @@
+pub mod Implied
+pub mod Packing
 pub mod Tables
 pub mod Worked

@@ -1,8 +1,8 @@
 //! Bits, and the integers that they spell.
 
-ghost use Rattle.std.specs.Prelude.{◌≡◌, ◌≤◌, ◌≤ℤ◌, ◌<ℤ◌, ◌+ℤ◌, ◌*ℤ◌, pos, neg_ℤ, length, map};
+ghost use Rattle.std.specs.Prelude.{◌≡◌, ◌≤◌, ◌<◌, ℤ, ◌≤ℤ◌, ◌<ℤ◌, ◌+ℤ◌, ◌*ℤ◌, pos, neg_ℤ, length, map};
 ghost use Rattle.bool_circuit.specs.Circuit.{entry};
-ghost use Rattle.integer_bits.specs.Numbers.{bit, integer_of};
+ghost use Rattle.integer_bits.specs.Numbers.{bit, integer_of, FitsBits};
 ghost use Rattle.clf_tree.specs.Widths.{width};
 
 use bool_circuit::Wire;
@@ -20,6 +20,12 @@ pub(crate) fn bit(bits: &[bool], wire: Wire) -> bool
 /// The integers between two of 64 bits need no more.
 pub(crate) fn widths_are_few(_low: i64, _high: i64)
     ensures { width (record { low = _low; high = _high }) ≤ 64 }
+{}
+
+/// The integers between two of 64 bits have a spelling of so many bits, and of one at least.
+pub(crate) fn widths_suffice(_low: i64, _high: i64)
+    ensures some { 0 < width (record { low = _low; high = _high }) }
+    ensures fits { (z : ℤ) → _low ≤ℤ z → z ≤ℤ _high → FitsBits (width (record { low = _low; high = _high })) z }
 {}
 
 // An integer with one bit more, below the others.

@@ -39,9 +39,9 @@ fn parent_of(clafers: &[Clafer], clafer: usize) -> Option<u32>
     }
 }
 
-/// The names from a top-level clafer down to this one, in fewer than so many steps.
+/// Writes the names from a top-level clafer down to this one, joined by `.`, where it is fewer than so many steps down.
 #[tactic(auto, using(crate::proofs::Paths::path_steps))]
-fn push_path(
+pub fn push_path(
     text: &mut List<u8>,
     clafers: &[Clafer],
     steps: usize,

@@ -1,26 +1,25 @@
--- A clafer that is not there has no child.
+-- No clafer of the model is above one that is not there.
 use Rattle.std.proofs.Common.{◌≡◌, ◌≢◌, ℕ, zero, suc, ◌<◌, ◌≤◌, ◌&&◌, ◌||◌, Bool, true, false, List, [], ◌∷◌, length, Option, Some, None, refl, ap, sym, ◌∙◌, arith, ◌⊎◌, inl, inr}
-use Rattle.std.specs.Prelude.{slice_get, eqb, IsTrue}
+use Rattle.std.specs.Prelude.{slice_get, eqb}
 use Rattle.std.specs.Option.{option_map_or, option_and_then}
 use Rattle.std.specs.List.{list_all}
 use Rattle.std.proofs.lemmas.Bool.Decides.{Decides-ltb, eqb_tells}
 use Rattle.std.proofs.lemmas.Bool.{true≢false}
 use Rattle.clf_tree.specs.declared.model.Clafer.{Clafer}
 use Rattle.clf_tree.specs.Lists.{has}
-use Rattle.clf_tree.specs.Hierarchy.{is_below, names_below, is_closed, is_a, way_up, parent_of}
-use Rattle.name_resolver.specs.Ways.{is_child}
+use Rattle.clf_tree.specs.Hierarchy.{is_below, names_below, way_up}
 
-both : (a b : Bool) → (a && b) ≡ true → (a ≡ true) × (b ≡ true)
+pub both : (a b : Bool) → (a && b) ≡ true → (a ≡ true) × (b ≡ true)
 both true b h = (refl, h)
 both false b h = absurd (true≢false (sym h))
 
-not_got : (xs : List Clafer) (i : ℕ) → length xs ≤ i → slice_get xs i ≡ None
+pub not_got : (xs : List Clafer) (i : ℕ) → length xs ≤ i → slice_get xs i ≡ None
 not_got [] i far = refl
 not_got (x ∷ xs) zero far = absurd (omega (arith, far))
 not_got (x ∷ xs) (suc i) far = not_got xs i (omega (arith, far))
 
 -- the parent of a clafer is there
-parent_there : (n : ℕ) (xs : List Clafer) (d p : ℕ) → list_all (names_below n) xs ≡ true → option_and_then (λ k. k.parent) (slice_get xs d) ≡ Some p → p < n
+pub parent_there : (n : ℕ) (xs : List Clafer) (d p : ℕ) → list_all (names_below n) xs ≡ true → option_and_then (λ k. k.parent) (slice_get xs d) ≡ Some p → p < n
 parent_there n [] d p all e = (cc)
 parent_there n (x ∷ xs) zero p all e =
     let one = (both (names_below n x) (list_all (names_below n) xs) all).0 in
@@ -33,19 +32,8 @@ other : (p m : ℕ) → ((eqb p m ≡ true) × (p ≡ m)) ⊎ ((eqb p m ≡ fals
 other p m (inl h) less = absurd (omega (arith, h.1, less))
 other p m (inr h) less = h.0
 
-alone : (clafers : List Clafer) (n m p : ℕ) → slice_get clafers m ≡ None → p < m → has (way_up clafers n m) p ≡ false
+pub alone : (clafers : List Clafer) (n m p : ℕ) → slice_get clafers m ≡ None → p < m → has (way_up clafers n m) p ≡ false
 alone clafers zero m p gone less = ap (λ b. b || false) (other p m (eqb_tells p m) less)
 alone clafers (suc n) m p gone less =
     ap (λ (o : Option Clafer). has (m ∷ option_map_or (way_up clafers n) (option_and_then (λ k. k.above) o) []) p) gone
     ∙ ap (λ b. b || false) (other p m (eqb_tells p m) less)
-
-pub beyond : (clafers : List Clafer) (m d : ℕ) → IsTrue (is_closed clafers) → length clafers ≤ m → false ≡ is_child clafers m d
-beyond clafers m d closed far = by_parent (parent_of clafers d) refl
-  where
-    by_parent : (o : Option ℕ) → parent_of clafers d ≡ o → false ≡ option_map_or (is_a clafers m) o false
-    by_parent None e = refl
-    by_parent (Some p) e =
-        let low = parent_there (length clafers) clafers d p closed e in
-        sym (alone clafers (length clafers) m p (not_got clafers m far) (omega (arith, low, far)))
-
-pub ruleset beyond_steps = (beyond)

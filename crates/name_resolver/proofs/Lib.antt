@@ -3,6 +3,7 @@ pub mod Beyond
 pub mod Depths
 pub mod FirstWays
 pub mod Heights
+pub mod Marking
 pub mod Meanings
 pub mod MeansOnce
 pub mod MeansThere

@@ -10,7 +10,7 @@ use Rattle.clf_tree.specs.Hierarchy.{is_below}
 use Rattle.name_resolver.specs.declared.outside.Found.TheVariants as found
 use Rattle.name_resolver.specs.declared.steps.Meant.TheVariants as meant
 use Rattle.name_resolver.specs.Ways.{Way, here, down}
-use Rattle.name_resolver.specs.Outwards.{Means, is_at_top, below, ambiguous, outside, top}
+use Rattle.name_resolver.specs.Outwards.{is_at_top, below, ambiguous, outside, top}
 use Rattle.name_resolver.specs.Meaning.{is_there, MeansThere}
 use Rattle.name_resolver.proofs.Members.{filter_below}
 use Rattle.name_resolver.proofs.Straight.{child_below}

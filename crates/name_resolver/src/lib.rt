@@ -6,6 +6,7 @@
 #![tactic(auto)]
 
 mod levels;
+mod marks;
 mod nearest;
 mod outside;
 mod steps;

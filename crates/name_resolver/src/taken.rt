@@ -1,13 +1,14 @@
 //! The way that is taken down to a clafer: of the shortest ways the one that goes to the earlier clafers.
 
 ghost use Rattle.std.specs.Prelude.{◌≡◌, ◌<◌, ◌^◌, [], ◌∷◌, length, slice_get, IfOk, IfSome, IsTrue, nat_lt};
-ghost use Rattle.std.specs.List.{filter, list_all, list_any};
+ghost use Rattle.std.specs.List.{filter, list_all};
 ghost use Rattle.clf_tree.specs.Hierarchy.{is_closed};
 ghost use Rattle.clf_tree.specs.Lists.{has};
-ghost use Rattle.name_resolver.specs.Ways.{is_child, children};
+ghost use Rattle.name_resolver.specs.Ways.{children};
 ghost use Rattle.name_resolver.specs.FirstWay.{step_up, heights, steps_from, way_taken, IsTakenIfAny};
 
-use crate::levels::{children, is_child};
+use crate::levels::children;
+use crate::marks::{is_marked_above, marks_parents};
 use crate::steps::only;
 use clf_base::{List, NoMemory};
 use clf_tree::Clafer;
@@ -19,32 +20,17 @@ fn has(clafers: &List<u32>, clafer: u32) -> bool
     clafers.as_slice().iter().any(|other| clafer == *other)
 }
 
-// Whether one of the given clafers is a child of `clafer`.
-fn has_child_among(clafers: &List<Clafer>, clafer: u32, ms: &List<u32>) -> bool
-    requires clafer_in { clafer < length clafers.now }
-    requires level_in { IsTrue (list_all (λ m. nat_lt m (length clafers.now)) ms.now) }
-    requires closed { IsTrue (is_closed clafers.now) }
-    ensures { result ≡ list_any (is_child clafers.now clafer) ms.now }
-{
-    for child in ms.as_slice() {
-        if is_child(clafers, clafer, *child) {
-            return true;
-        }
-    }
-    false
-}
-
-// The clafers that have a child among the given ones, in the order of the model.
-#[tactic(auto, using(crate::proofs::Numbers::child_steps))]
+// The clafers that have a child among the given ones, in the order of the model. It goes up from each clafer.
 fn step_up(alloc: Global, clafers: &List<Clafer>, ms: &List<u32>) -> Result<List<u32>, NoMemory>
     requires level_in { IsTrue (list_all (λ m. nat_lt m (length clafers.now)) ms.now) }
     requires closed { IsTrue (is_closed clafers.now) }
     requires few { length clafers.now < 2 ^ 32 }
     ensures { IfOk result (λ up. up ≡ step_up clafers.now ms.now) }
 {
+    let marks = marks_parents(alloc, clafers, ms)?;
     let mut up = List::new(alloc);
     for clafer in 0..clafers.len() {
-        if has_child_among(clafers, clafer as u32, ms) {
+        if is_marked_above(clafers, marks.as_slice(), clafer as u32) {
             up.push(clafer as u32)?;
         }
     }

@@ -3,9 +3,9 @@
 ghost use Rattle.std.specs.Prelude.{◌≤◌, length};
 
 use clafer_lexer::{laid_tokens_stand_in_order, lay, lex};
+use clafer_parser::parse;
 use clf_base::Fault;
 use clf_tree::Module;
-use module_parser::parse;
 use std::alloc::Global;
 
 /// The module of a text, or its first refusal.

@@ -1,5 +1,5 @@
 -- A relational expression is of the sort of the kind of its expression.
-use Rattle.std.proofs.Common.{◌≡◌, ℕ, Bool, true, false, cond, List, [], ◌∷◌, ◌++◌, length, replicate, Option, Some, None, refl}
+use Rattle.std.proofs.Common.{◌≡◌, ℕ, Bool, true, false, cond, List, [], ◌∷◌, ◌++◌, length, replicate, Option, Some, None, refl, ap}
 use Rattle.std.specs.Option.{option_map}
 use Rattle.clf_tree.specs.declared.token.Word.{Word}
 use Rattle.clf_tree.specs.declared.token.Word.TheVariants as word
@@ -19,7 +19,9 @@ use Rattle.clf_tree.specs.Kinds.{kind, clafers_of, bind_kinds, parent_kind, pare
 use Rattle.clf_tree.specs.Intervals.{interval}
 use Rattle.clf_tree.specs.Core.{Core}
 use Rattle.clf_tree.specs.CoreSoundness.{Sort, Nodes, sort, is_set, is_number, is_test, clafers_in}
-use Rattle.relational_core.specs.Lowered.{dref, same, part, choice, quant, as_truth, lowered}
+use Rattle.clf_tree.specs.Widths.{width}
+use Rattle.relational_core.specs.Lowered.{dref, same, part, choice, quant, negative, as_truth, as_number, negated, lowered}
+use Rattle.relational_core.proofs.Constants.{negated-sort, added-sort, multiplied-sort}
 
 abbrev pub sort_fits : Option Kind → Sort → Bool
 sort_fits (Some kinds.Truth) s = is_test s
@@ -116,6 +118,9 @@ module _ (clafers : List Clafer) (scopes : Scopes) where
   quant-sort word.Lone disj n over body = refl
   quant-sort _ disj n over body = refl
 
+  abbrev as_integer : Tree → Within → List (List ℕ) → Core
+  as_integer t w g = as_number (kind clafers t w) (interval clafers scopes t w) (lowered clafers scopes t w g)
+
   pub sorted_core : (t : Tree) (w : Within) (g : List (List ℕ)) → sort_fits (kind clafers t w) (sort (lowered clafers scopes t w g)) ≡ true
   sorted_core (e.This at) w g = set-option (λ c. c ∷ []) w.this (clafers_in (sort (lowered clafers scopes (e.This at) w g)))
   sorted_core (e.Variable at i) w g = set-option (λ ks. ks) (from_end w.bound i) (clafers_in (sort (lowered clafers scopes (e.Variable at i) w g)))
@@ -137,4 +142,9 @@ module _ (clafers : List Clafer) (scopes : Scopes) where
       quant-sort word disj (length names) (lowered clafers scopes over w g)
       (as_truth (kind clafers body (bind_kinds (clafers_of (kind clafers over w)) (length names) w))
       (lowered clafers scopes body (bind_kinds (clafers_of (kind clafers over w)) (length names) w) (g ++ replicate (length names) (clafers_in (sort (lowered clafers scopes over w g))))))
+  sorted_core (e.Neg at a) w g = ap is_number (negated-sort (width (interval clafers scopes (e.Neg at a) w)) (as_integer a w g))
+  sorted_core (e.Add at a b) w g = ap is_number (added-sort (width (interval clafers scopes (e.Add at a b) w)) (as_integer a w g) (as_integer b w g))
+  sorted_core (e.Sub at a b) w g =
+      ap is_number (added-sort (width (interval clafers scopes (e.Sub at a b) w)) (as_integer a w g) (negated (width (negative (interval clafers scopes b w))) (as_integer b w g)))
+  sorted_core (e.Mul at a b) w g = ap is_number (multiplied-sort (width (interval clafers scopes (e.Mul at a b) w)) (as_integer a w g) (as_integer b w g))
   sorted_core _ w g = refl

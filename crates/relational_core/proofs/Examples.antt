@@ -1,5 +1,5 @@
 -- Relational expressions of small models, worked out.
-use Rattle.std.proofs.Common.{◌≡◌, ℕ, ◌+◌, ◌*◌, true, false, Bool, List, [], ◌∷◌, Option, Some, None, refl, pos, neg_ℤ}
+use Rattle.std.proofs.Common.{◌≡◌, ℕ, ◌+◌, ◌*◌, ◌^◌, true, false, Bool, List, [], ◌∷◌, Option, Some, None, refl, pos, neg_ℤ}
 use Rattle.clf_base.specs.declared.fault.Span.{Span}
 use Rattle.clf_tree.specs.declared.token.Word.TheVariants as word
 use Rattle.clf_tree.specs.declared.token.Title.{Title}
@@ -13,7 +13,7 @@ use Rattle.clf_tree.specs.Core as c
 use Rattle.clf_tree.specs.CoreWeights.{core_weight}
 use Rattle.clf_tree.specs.Widths.{width}
 use Rattle.int_widths.specs.Narrow.{is_narrow_law}
-use Rattle.relational_core.specs.Lowered.{lowered_law, lowered_goal, kind_interval}
+use Rattle.relational_core.specs.Lowered.{negated, added, multiplied, lowered_law, lowered_goal, kind_interval}
 use Rattle.relational_core.specs.Conditions.{is_typed_law}
 
 abbrev at : Span
@@ -72,10 +72,20 @@ they_are_narrow : is_narrow_law bag two (None, e.LessEqual at (e.Clafer at 0) (e
 unfolding width kind_interval
 they_are_narrow = refl
 
--- a difference is the sum with the opposite, whose width is its own
-a_difference : lowered_goal bag two (e.Sub at (e.Clafer at 0) (e.Literal at 7)) ≡ c.Add 6 (c.Total 5 (c.Every (0 ∷ []))) (c.Neg 4 (c.Const 4 (pos 7)))
-unfolding width kind_interval
+-- a difference is the sum with the opposite, which is done at once where it is a constant
+a_difference : lowered_goal bag two (e.Sub at (e.Clafer at 0) (e.Literal at 7)) ≡ c.Add 6 (c.Total 5 (c.Every (0 ∷ []))) (c.Const 4 (neg_ℤ (pos 7)))
+unfolding width kind_interval negated added
 a_difference = refl
+
+-- constants are folded: two times three, less seven
+minus_one : lowered_goal bag two (e.Sub at (e.Mul at (e.Literal at 2) (e.Literal at 3)) (e.Literal at 7)) ≡ c.Const 1 (neg_ℤ (pos 1))
+unfolding width negated added multiplied
+minus_one = refl
+
+-- one that 64 bits don't hold is not folded
+too_long : multiplied 64 (c.Const 63 (pos (2 ^ 62))) (c.Const 3 (pos 2)) ≡ c.Mul 64 (c.Const 63 (pos (2 ^ 62))) (c.Const 3 (pos 2))
+unfolding multiplied
+too_long = refl
 
 -- two different ones have the same value
 two_variables : lowered_law bag two (None, e.Quant at word.Some true (title ∷ title ∷ []) (e.Clafer at 0) (e.Equal at (e.Variable at 1) (e.Variable at 0)))
@@ -103,3 +113,26 @@ only_red = refl
 no_paint : lowered_law colors each (None, e.Quant at word.No false (title ∷ []) (e.Clafer at 3) (e.In at (e.Variable at 0) (e.Clafer at 2)))
     ≡ c.Not (c.Quant quantifier.Some false 1 (c.Every (3 ∷ [])) (c.WithinNodes (c.Follow (1 ∷ 2 ∷ []) (c.Bound (3 ∷ []) 0)) (c.Every (2 ∷ []))))
 no_paint = refl
+
+-- Part with its cost and its gain; phone, below it screen with basic, colour and hd, and beside it gps and camera, which are parts
+abbrev phone : List Clafer
+phone =
+    clafer true None None None ∷ clafer false (Some 0) None (to None) ∷ clafer false (Some 0) None (to None) ∷ clafer false None None None ∷ clafer false (Some 3) None None
+    ∷ clafer false (Some 4) (Some 0) None ∷ clafer false (Some 4) (Some 0) None ∷ clafer false (Some 4) (Some 0) None ∷ clafer false (Some 3) (Some 0) None ∷ clafer false (Some 3) (Some 0) None ∷ []
+
+abbrev parts : Scopes
+parts = record { of = 0 ∷ 5 ∷ 5 ∷ 1 ∷ 1 ∷ 1 ∷ 1 ∷ 1 ∷ 1 ∷ 1 ∷ []; low = neg_ℤ (pos 2048); high = pos 2047 }
+
+camera_needs_hd : lowered_law phone parts (Some 3, e.Implies at (e.Step at (e.This at) (9 ∷ []) false) (e.Step at (e.Step at (e.This at) (4 ∷ []) false) (7 ∷ []) false))
+    ≡ c.Quant quantifier.All false 1 (c.Every (3 ∷ [])) (c.Or (c.Not (c.AtLeast 1 (c.Down (9 ∷ []) (c.Bound (3 ∷ []) 0)))) (c.AtLeast 1 (c.Down (7 ∷ []) (c.Down (4 ∷ []) (c.Bound (3 ∷ []) 0)))))
+camera_needs_hd = refl
+
+basic_costs_two : lowered_law phone parts (Some 5, e.Equal at (e.Step at (e.This at) (1 ∷ []) false) (e.Literal at 2))
+    ≡ c.Quant quantifier.All false 1 (c.Every (5 ∷ [])) (c.SameValues (c.Down (1 ∷ []) (c.Bound (5 ∷ []) 0)) (c.Const 3 (pos 2)))
+unfolding width
+basic_costs_two = refl
+
+-- five costs of twelve bits have a sum of fifteen
+least_cost : lowered_goal phone parts (e.Sum at (e.Step at (e.Clafer at 0) (1 ∷ []) false)) ≡ c.Total 15 (c.Down (1 ∷ []) (c.Every (5 ∷ 6 ∷ 7 ∷ 8 ∷ 9 ∷ [])))
+unfolding width kind_interval
+least_cost = refl

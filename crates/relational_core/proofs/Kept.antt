@@ -27,6 +27,7 @@ use Rattle.clf_tree.specs.Kinds.{kind, clafers_of, bind_kinds, reading_of}
 use Rattle.clf_tree.specs.Typed.{is_typed, fits_truth, fits_number, fits_nodes, fits_sum, fit_together, fit_choice, fit_sides}
 use Rattle.clf_tree.specs.Meaning.{Value, Truth, Integer, Nodes, Situation, value, is_true, nodes, number, nodes_where, parents, tried, quantified, bind}
 use Rattle.clf_tree.specs.Meaning as source
+use Rattle.clf_tree.specs.Widths.{width}
 use Rattle.clf_tree.specs.Intervals.{interval}
 use Rattle.clf_tree.specs.Core as c
 use Rattle.clf_tree.specs.Core.{Core}
@@ -34,9 +35,10 @@ use Rattle.clf_tree.specs.CoreMeaning.{meaning, truth_in, integer_in, those}
 use Rattle.clf_tree.specs.CoreSoundness.{sort, clafers_in, is_entry_of, are_entries}
 use Rattle.int_widths.specs.Narrow.{within_context}
 use Rattle.relational_core.specs.Conditions.{is_typed_law, is_typed_goal}
-use Rattle.relational_core.specs.Lowered.{as_truth, as_number, quant, through, instances_of, children_of, can_hold, lowered, lowered_law, lowered_goal}
+use Rattle.relational_core.specs.Lowered.{as_truth, as_number, negative, negated, quant, through, instances_of, children_of, can_hold, lowered, lowered_law, lowered_goal}
 use Rattle.relational_core.proofs.Passing.{both, and_parts, and_all, or_false, and_false, and_true, some_passes, filter_all, filter_agree}
 use Rattle.relational_core.proofs.Bindings.{from_end-this, from_end-within, bound_below, pairs-append}
+use Rattle.relational_core.proofs.Constants.{negated-means, added-means, multiplied-means}
 use Rattle.relational_core.proofs.Possible.{has-possible}
 use Rattle.relational_core.proofs.Instances.{fit}
 use Rattle.relational_core.proofs.Listed.{Listed, possible-entry, there-entry, holding, clafer-in, through-safe, safe}
@@ -301,10 +303,21 @@ module _ (clafers : List Clafer) (scopes : Scopes) (entries : List Entry) (all :
       let h = and_parts (is_typed clafers a s.within) (fits_sum clafers (kind clafers a s.within)) f in
       ap (λ v. Integer (number clafers entries (Nodes (nodes v)))) (law a s g h.0 p)
       ∙ ap (λ v. Integer (number clafers entries v)) (is-nodes clafers scopes entries (bound_in s) (kind clafers a s.within) (value clafers entries a s) (sorted clafers entries a s) (sum_nodes clafers (kind clafers a s.within) h.1))
-  law (e.Neg _ a) s g f p = ap (λ v. Integer (neg_ℤ (integer_in v))) (count a s g f (λ k. law a s g k p))
-  law (e.Add _ a b) s g f p = counts (λ u v. Integer (integer_in u +ℤ integer_in v)) a b s g f (λ k. law a s g k p) (λ k. law b s g k p)
-  law (e.Sub _ a b) s g f p = counts (λ u v. Integer (integer_in u +ℤ neg_ℤ (integer_in v))) a b s g f (λ k. law a s g k p) (λ k. law b s g k p)
-  law (e.Mul _ a b) s g f p = counts (λ u v. Integer (integer_in u *ℤ integer_in v)) a b s g f (λ k. law a s g k p) (λ k. law b s g k p)
+  law (e.Neg at a) s g f p =
+      negated-means entries (bound_in s) (width (interval clafers scopes (e.Neg at a) s.within)) (counted a s.within g)
+      ∙ ap (λ v. Integer (neg_ℤ (integer_in v))) (count a s g f (λ k. law a s g k p))
+  law (e.Add at a b) s g f p =
+      added-means entries (bound_in s) (width (interval clafers scopes (e.Add at a b) s.within)) (counted a s.within g) (counted b s.within g)
+      ∙ counts (λ u v. Integer (integer_in u +ℤ integer_in v)) a b s g f (λ k. law a s g k p) (λ k. law b s g k p)
+  law (e.Sub at a b) s g f p =
+      let opposite = negated (width (negative (interval clafers scopes b s.within))) (counted b s.within g) in
+      added-means entries (bound_in s) (width (interval clafers scopes (e.Sub at a b) s.within)) (counted a s.within g) opposite
+      ∙ ap (λ v. Integer (integer_in (meaning entries (counted a s.within g) (bound_in s)) +ℤ integer_in v))
+      (negated-means entries (bound_in s) (width (negative (interval clafers scopes b s.within))) (counted b s.within g))
+      ∙ counts (λ u v. Integer (integer_in u +ℤ neg_ℤ (integer_in v))) a b s g f (λ k. law a s g k p) (λ k. law b s g k p)
+  law (e.Mul at a b) s g f p =
+      multiplied-means entries (bound_in s) (width (interval clafers scopes (e.Mul at a b) s.within)) (counted a s.within g) (counted b s.within g)
+      ∙ counts (λ u v. Integer (integer_in u *ℤ integer_in v)) a b s g f (λ k. law a s g k p) (λ k. law b s g k p)
   law (e.Less _ a b) s g f p = counts (λ u v. Truth (int_lt (integer_in u) (integer_in v))) a b s g f (λ k. law a s g k p) (λ k. law b s g k p)
   law (e.LessEqual _ a b) s g f p =
       counts (λ u v. Truth (not (int_lt (integer_in v) (integer_in u)))) a b s g f (λ k. law a s g k p) (λ k. law b s g k p)

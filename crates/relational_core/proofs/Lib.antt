@@ -2,6 +2,7 @@ pub mod Beyond
 pub mod Bindings
 pub mod Choosing
 pub mod Comparing
+pub mod Constants
 pub mod CoreSorts
 pub mod Examples
 pub mod InKinds

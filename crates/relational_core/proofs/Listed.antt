@@ -1,5 +1,6 @@
 -- The nodes of a relational expression are entries of its clafers.
-use Rattle.std.proofs.Common.{◌≡◌, ℕ, Bool, true, false, not, cond, ◌&&◌, ◌||◌, List, [], ◌∷◌, ◌++◌, length, replicate, Option, Some, None, refl, ap, sym, ◌∙◌}
+use Rattle.std.proofs.Common.{◌≡◌, ℕ, Bool, true, false, not, cond, ◌&&◌, ◌||◌, List, [], ◌∷◌, ◌++◌, length, replicate, Option, Some, None, refl, ap, sym, ◌∙◌, ℤ}
+use Rattle.std.specs.Prelude.{neg_ℤ, ◌+ℤ◌, ◌*ℤ◌}
 use Rattle.std.specs.Option.{option_map_or}
 use Rattle.std.specs.List.{filter, list_any, list_all}
 use Rattle.std.proofs.lemmas.Bool.{true≢false}
@@ -21,16 +22,18 @@ use Rattle.clf_tree.specs.Tree.{Tree}
 use Rattle.clf_tree.specs.Lists.{from_end, has}
 use Rattle.clf_tree.specs.Nodes.{same_node, has_node, has_some, nodes_of, target_node}
 use Rattle.clf_tree.specs.Kinds.{kind, clafers_of, bind_kinds, reading_of}
-use Rattle.clf_tree.specs.Meaning.{nodes}
+use Rattle.clf_tree.specs.Meaning.{Integer, nodes}
 use Rattle.clf_tree.specs.Core as c
 use Rattle.clf_tree.specs.Core.{Core}
 use Rattle.clf_tree.specs.CoreMeaning.{meaning, those}
 use Rattle.clf_tree.specs.CoreMeaning as core
 use Rattle.clf_tree.specs.CoreSoundness.{sort, clafers_in, is_entry_of, are_entries}
+use Rattle.clf_tree.specs.Widths.{width}
 use Rattle.clf_tree.specs.Intervals.{interval}
-use Rattle.relational_core.specs.Lowered.{is_possible, can_hold, can_reach, instances_of, children_of, parents_of, targets_of, either_of, both_of, dref, through, same, part, choice, quant, as_truth, lowered}
+use Rattle.relational_core.specs.Lowered.{is_possible, can_hold, can_reach, instances_of, children_of, parents_of, targets_of, either_of, both_of, dref, through, same, part, choice, quant, negative, as_truth, as_number, negated, added, multiplied, lowered}
 use Rattle.relational_core.proofs.Passing.{and_parts, and_all, or_left, or_right, some_passes, all_implied, any_shows, filter_all}
 use Rattle.relational_core.proofs.Bindings.{pairs-end}
+use Rattle.relational_core.proofs.Constants.{negated-means, added-means, multiplied-means}
 use Rattle.relational_core.proofs.Possible.{has-possible}
 use Rattle.relational_core.proofs.Instances.{same-equal, listed-has, fit, parent_fits, target_fits, entry-possible}
 
@@ -194,6 +197,16 @@ module _ (clafers : List Clafer) (scopes : Scopes) (entries : List Entry) (all :
   choice-safe (Some (kinds.Nodes ks)) k l z x y t a b bound h j = choice-nodes t a b bound h j
   choice-safe (Some (kinds.Numbers ks)) k l z x y t a b bound h j = choice-nodes t a b bound h j
 
+  -- an integer has no nodes
+  integer-safe : (a : Core) (bound : List Node) (z : ℤ) → meaning entries a bound ≡ Integer z → IsListed a bound
+  integer-safe a bound z h = ap (λ v. list_all (is_entry_of entries (clafers_in (sort a))) (nodes v)) h
+
+  abbrev as_integer : Tree → Within → List (List ℕ) → Core
+  as_integer t w g = as_number (kind clafers t w) (interval clafers scopes t w) (lowered clafers scopes t w g)
+
+  abbrev integer_of : Core → List Node → ℤ
+  integer_of a bound = core.integer_in (meaning entries a bound)
+
   pub safe : (t : Tree) (w : Within) (g : List (List ℕ)) (bound : List Node) → are_entries entries g bound ≡ true → IsListed (lowered clafers scopes t w g) bound
   safe (e.This _) w g bound are = bound-listed g bound (length w.bound) (from_end bound (length w.bound)) are refl
   safe (e.Variable _ i) w g bound are = bound-listed g bound i (from_end bound i) are refl
@@ -223,4 +236,20 @@ module _ (clafers : List Clafer) (scopes : Scopes) (entries : List Entry) (all :
       quant-safe word disj (length names) (lowered clafers scopes over w g)
       (as_truth (kind clafers body (bind_kinds (clafers_of (kind clafers over w)) (length names) w))
       (lowered clafers scopes body (bind_kinds (clafers_of (kind clafers over w)) (length names) w) (g ++ replicate (length names) (clafers_in (sort (lowered clafers scopes over w g)))))) bound
+  safe (e.Neg at a) w g bound are =
+      let bits = width (interval clafers scopes (e.Neg at a) w) in
+      let x = as_integer a w g in
+      integer-safe (negated bits x) bound (neg_ℤ (integer_of x bound)) (negated-means entries bound bits x)
+  safe (e.Add at a b) w g bound are =
+      let bits = width (interval clafers scopes (e.Add at a b) w) in
+      let x = as_integer a w g in let y = as_integer b w g in
+      integer-safe (added bits x y) bound (integer_of x bound +ℤ integer_of y bound) (added-means entries bound bits x y)
+  safe (e.Sub at a b) w g bound are =
+      let bits = width (interval clafers scopes (e.Sub at a b) w) in
+      let x = as_integer a w g in let y = negated (width (negative (interval clafers scopes b w))) (as_integer b w g) in
+      integer-safe (added bits x y) bound (integer_of x bound +ℤ integer_of y bound) (added-means entries bound bits x y)
+  safe (e.Mul at a b) w g bound are =
+      let bits = width (interval clafers scopes (e.Mul at a b) w) in
+      let x = as_integer a w g in let y = as_integer b w g in
+      integer-safe (multiplied bits x y) bound (integer_of x bound *ℤ integer_of y bound) (multiplied-means entries bound bits x y)
   safe _ w g bound are = refl

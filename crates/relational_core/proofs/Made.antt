@@ -20,10 +20,12 @@ use Rattle.clf_tree.specs.Tree.{Tree}
 use Rattle.clf_tree.specs.Lists.{from_end, each_two, has}
 use Rattle.clf_tree.specs.Hierarchy.{is_concrete, is_one_of}
 use Rattle.clf_tree.specs.Kinds.{kind, clafers_of, bind_kinds, reading_of}
+use Rattle.clf_tree.specs.Widths.{width}
 use Rattle.clf_tree.specs.Intervals.{interval}
 use Rattle.clf_tree.specs.Core.{Core}
-use Rattle.clf_tree.specs.CoreSoundness.{sort, clafers_in}
-use Rattle.relational_core.specs.Lowered.{possible, can_hold, can_reach, dref, through, same, part, choice, quant, as_truth, lowered}
+use Rattle.clf_tree.specs.CoreSoundness.{Number, sort, clafers_in}
+use Rattle.relational_core.specs.Lowered.{possible, can_hold, can_reach, dref, through, same, part, choice, quant, negative, as_truth, as_number, negated, added, multiplied, lowered}
+use Rattle.relational_core.proofs.Constants.{negated-sort, added-sort, multiplied-sort}
 use Rattle.relational_core.proofs.Passing.{and_parts, and_all}
 use Rattle.relational_core.proofs.Possible.{concrete-possible, ascending-possible}
 
@@ -98,6 +100,12 @@ module _ (clafers : List Clafer) (scopes : Scopes) where
   choice-made (Some (kinds.Nodes ks)) k l z x y t a b = either-made (clafers_in (sort a)) (clafers_in (sort b))
   choice-made (Some (kinds.Numbers ks)) k l z x y t a b = either-made (clafers_in (sort a)) (clafers_in (sort b))
 
+  number-made : (w : ℕ) (a : Core) → sort a ≡ Number w → IsMade a
+  number-made w a h = ap (λ s. is_made (clafers_in s)) h
+
+  abbrev as_integer : Tree → Within → List (List ℕ) → Core
+  as_integer t w g = as_number (kind clafers t w) (interval clafers scopes t w) (lowered clafers scopes t w g)
+
   pub made : (t : Tree) (w : Within) (g : List (List ℕ)) → list_all is_made g ≡ true → IsMade (lowered clafers scopes t w g)
   made (e.This _) w g all = bound-made g (length w.bound) (from_end g (length w.bound)) all refl
   made (e.Variable _ i) w g all = bound-made g i (from_end g i) all refl
@@ -121,4 +129,15 @@ module _ (clafers : List Clafer) (scopes : Scopes) where
       quant-made word disj (length names) (lowered clafers scopes over w g)
       (as_truth (kind clafers body (bind_kinds (clafers_of (kind clafers over w)) (length names) w))
       (lowered clafers scopes body (bind_kinds (clafers_of (kind clafers over w)) (length names) w) (g ++ replicate (length names) (clafers_in (sort (lowered clafers scopes over w g))))))
+  made (e.Neg at a) w g all =
+      let bits = width (interval clafers scopes (e.Neg at a) w) in number-made bits (negated bits (as_integer a w g)) (negated-sort bits (as_integer a w g))
+  made (e.Add at a b) w g all =
+      let bits = width (interval clafers scopes (e.Add at a b) w) in number-made bits (added bits (as_integer a w g) (as_integer b w g)) (added-sort bits (as_integer a w g) (as_integer b w g))
+  made (e.Sub at a b) w g all =
+      let bits = width (interval clafers scopes (e.Sub at a b) w) in
+      let opposite = negated (width (negative (interval clafers scopes b w))) (as_integer b w g) in
+      number-made bits (added bits (as_integer a w g) opposite) (added-sort bits (as_integer a w g) opposite)
+  made (e.Mul at a b) w g all =
+      let bits = width (interval clafers scopes (e.Mul at a b) w) in
+      number-made bits (multiplied bits (as_integer a w g) (as_integer b w g)) (multiplied-sort bits (as_integer a w g) (as_integer b w g))
   made _ w g all = refl

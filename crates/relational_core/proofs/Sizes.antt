@@ -1,6 +1,6 @@
 -- Sizes of lists of clafers, and weights of greater numbers.
 use Rattle.std.proofs.Common.{◌≡◌, ◌≢◌, ℕ, zero, suc, ◌+◌, ◌*◌, ◌/◌, ◌^◌, ◌<◌, ◌≤◌, Bool, true, false, not, cond, ◌&&◌, List, [], ◌∷◌, length, map, sum, Option, Some, None, refl, ap, sym, subst, ◌∙◌, arith, ◌⊎◌, inl, inr}
-use Rattle.std.specs.Prelude.{eqb, leb, slice_get, nat_lt, nat_le, max}
+use Rattle.std.specs.Prelude.{eqb, slice_get, nat_lt, nat_le, max}
 use Rattle.std.specs.Option.{option_map_or}
 use Rattle.std.specs.List.{filter, list_all, range_with_len}
 use Rattle.std.proofs.lemmas.Bool.{true≢false}

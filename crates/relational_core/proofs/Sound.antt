@@ -33,14 +33,13 @@ use Rattle.clf_tree.specs.Meaning as values
 use Rattle.clf_tree.specs.Widths.{width}
 use Rattle.clf_tree.specs.Intervals.{interval}
 use Rattle.clf_tree.specs.Numerics.{Numeric, numeric, inside, is_narrow, all_narrow, is_integer, by_values, and_itself}
-use Rattle.clf_tree.specs.Core as c
 use Rattle.clf_tree.specs.Core.{Core}
 use Rattle.clf_tree.specs.CoreMeaning.{meaning, integer_in}
 use Rattle.clf_tree.specs.CoreSoundness.{Sort, Nodes, Number, Truth, sort, clafers_in, is_set, is_number, is_test, is_entry_of, are_entries, is_instance, is_well_made, holds_value, holds_integer, Holds, Sound}
-use Rattle.int_widths.specs.Narrow.{within_context}
-use Rattle.relational_core.specs.Lowered.{as_truth, as_number, negative, through, dref, follow, same, part, choice, quant, never, every, instances_of, kind_interval, lowered, lowered_law, lowered_goal}
+use Rattle.relational_core.specs.Lowered.{as_truth, as_number, negative, negated, through, dref, follow, same, part, choice, quant, never, every, instances_of, kind_interval, lowered, lowered_law, lowered_goal}
 use Rattle.relational_core.proofs.Passing.{and_parts, and_all, all_implied}
 use Rattle.relational_core.proofs.Bindings.{pairs-append, pairs-end, bound_below}
+use Rattle.relational_core.proofs.Constants.{NumberHolds, negated-means, negated-sort, negated-sound, added-sound, multiplied-sound}
 use Rattle.relational_core.proofs.Instances.{all_fit}
 use Rattle.relational_core.proofs.Listed.{safe, through-safe}
 use Rattle.relational_core.proofs.Made.{is_made, made, possible-made}
@@ -267,9 +266,8 @@ module _ (clafers : List Clafer) (scopes : Scopes) (closed : is_closed clafers �
   tested-sound (Some (kinds.Numbers ks)) a g f h s = absurd (true≢false (sym f))
 
   -- ---- integer position
-  record IntHolds (a : Core) (g : List (List ℕ)) (w : ℕ) : Type 0 where
-    sized : (nat_le 1 w && nat_le w 64) ≡ true
-    value : (entries : List Entry) → is_instance clafers scopes entries ≡ true → (bound : List Node) → are_entries entries g bound ≡ true → holds_integer w (integer_in (meaning entries a bound)) ≡ true
+  abbrev IntHolds : Core → List (List ℕ) → ℕ → Type 0
+  IntHolds a g w = NumberHolds clafers scopes a g w
 
   counted-sound : (k : Option Kind) (z : Bounds) (a : Core) (g : List (List ℕ)) → fits_number clafers k ≡ true → sort_fits k (sort a) ≡ true → IsSound a g → IntHolds (as_number k z a) g (width z)
       → (is_number (sort (as_number k z a)) ≡ true) × IsSound (as_number k z a) g
@@ -385,7 +383,7 @@ module _ (clafers : List Clafer) (scopes : Scopes) (closed : is_closed clafers �
       wider h = omega (arith, h)
 
   opposite-holds : (t : Tree) (w : Within) (g : List (List ℕ)) → Stands w g → is_typed clafers t w ≡ true → fits_number clafers (kind clafers t w) ≡ true → all_narrow clafers scopes t w ≡ true
-      → IntHolds (c.Neg (width (negative (interval clafers scopes t w))) (as_number (kind clafers t w) (interval clafers scopes t w) (lowered clafers scopes t w g))) g (width (negative (interval clafers scopes t w)))
+      → IntHolds (negated (width (negative (interval clafers scopes t w))) (as_number (kind clafers t w) (interval clafers scopes t w) (lowered clafers scopes t w g))) g (width (negative (interval clafers scopes t w)))
   opposite-holds t w g st typed fits narrow =
       let b = interval clafers scopes t w in
       let held = held-opposite b (own-narrow t w narrow) in
@@ -394,7 +392,8 @@ module _ (clafers : List Clafer) (scopes : Scopes) (closed : is_closed clafers �
         value = λ entries i bound are.
             let n = counts t w g st typed fits narrow entries i bound are in
             let o = opposite-within b n.number (own-narrow t w narrow) n.lies.least n.lies.most in
-            ap (λ v. holds_integer (width (negative b)) (neg_ℤ (integer_in v))) n.is
+            ap (λ v. holds_integer (width (negative b)) (integer_in v)) (negated-means entries bound (width (negative b)) (as_number (kind clafers t w) b (lowered clafers scopes t w g)))
+            ∙ ap (λ v. holds_integer (width (negative b)) (neg_ℤ (integer_in v))) n.is
             ∙ within-held (negative b) (width (negative b)) (neg_ℤ n.number) held.held o.0 o.1;
       }
     where
@@ -532,6 +531,9 @@ module _ (clafers : List Clafer) (scopes : Scopes) (closed : is_closed clafers �
   set-part t w g f s =
       (set-of (kind clafers t w) (sort (lowered clafers scopes t w g)) f (sorted_core clafers scopes t w g), s (λ h. absurd (nodes-no_integer (kind clafers t w) f h)))
 
+  abbrev as_integer : Tree → Within → List (List ℕ) → Core
+  as_integer t w g = as_number (kind clafers t w) (interval clafers scopes t w) (lowered clafers scopes t w g)
+
   pub sound : (t : Tree) (w : Within) (g : List (List ℕ)) → Stands w g → is_typed clafers t w ≡ true → Narrow t w → Own t w → IsSound (lowered clafers scopes t w g) g
   unfolding kind_interval
   sound (e.Literal at n) w g st f narrow own =
@@ -650,14 +652,14 @@ module _ (clafers : List Clafer) (scopes : Scopes) (closed : is_closed clafers �
       let h = and_parts (is_typed clafers a w) (fits_number clafers (kind clafers a w)) f in
       let p = number-part a w g st h.0 h.1 narrow (λ n o. sound a w g st h.0 n o) in
       let i = integer-holds (e.Neg at a) w g st f refl (and_all (is_narrow (numeric clafers scopes (e.Neg at a) w)) (list_all is_narrow (inside clafers scopes (e.Neg at a) w)) (own refl) narrow) in
-      (p.0, p.1, record { well_made = i.sized; value = i.value })
+      negated-sound clafers scopes (width (interval clafers scopes (e.Neg at a) w)) (as_integer a w g) g p.0 p.1 i
   sound (e.Add at a b) w g st f narrow own =
       let h = and_parts (is_typed clafers a w && fits_number clafers (kind clafers a w)) (is_typed clafers b w && fits_number clafers (kind clafers b w)) f in
       let x = and_parts (is_typed clafers a w) (fits_number clafers (kind clafers a w)) h.0 in let y = and_parts (is_typed clafers b w) (fits_number clafers (kind clafers b w)) h.1 in
       let n = split-narrow (numeric clafers scopes a w ∷ inside clafers scopes a w) (numeric clafers scopes b w ∷ inside clafers scopes b w) narrow in
       let p = number-part a w g st x.0 x.1 n.0 (λ m o. sound a w g st x.0 m o) in let q = number-part b w g st y.0 y.1 n.1 (λ m o. sound b w g st y.0 m o) in
       let i = integer-holds (e.Add at a b) w g st f refl (and_all (is_narrow (numeric clafers scopes (e.Add at a b) w)) (list_all is_narrow (inside clafers scopes (e.Add at a b) w)) (own refl) narrow) in
-      (p.0, q.0, p.1, q.1, record { well_made = i.sized; value = i.value })
+      added-sound clafers scopes (width (interval clafers scopes (e.Add at a b) w)) (as_integer a w g) (as_integer b w g) g p.0 q.0 p.1 q.1 i
   sound (e.Sub at a b) w g st f narrow own =
       let h = and_parts (is_typed clafers a w && fits_number clafers (kind clafers a w)) (is_typed clafers b w && fits_number clafers (kind clafers b w)) f in
       let x = and_parts (is_typed clafers a w) (fits_number clafers (kind clafers a w)) h.0 in let y = and_parts (is_typed clafers b w) (fits_number clafers (kind clafers b w)) h.1 in
@@ -665,14 +667,16 @@ module _ (clafers : List Clafer) (scopes : Scopes) (closed : is_closed clafers �
       let p = number-part a w g st x.0 x.1 n.0 (λ m o. sound a w g st x.0 m o) in let q = number-part b w g st y.0 y.1 n.1 (λ m o. sound b w g st y.0 m o) in
       let j = opposite-holds b w g st y.0 y.1 n.1 in
       let i = integer-holds (e.Sub at a b) w g st f refl (and_all (is_narrow (numeric clafers scopes (e.Sub at a b) w)) (list_all is_narrow (inside clafers scopes (e.Sub at a b) w)) (own refl) narrow) in
-      (p.0, refl, p.1, (q.0, q.1, record { well_made = j.sized; value = j.value }), record { well_made = i.sized; value = i.value })
+      let bits = width (negative (interval clafers scopes b w)) in
+      added-sound clafers scopes (width (interval clafers scopes (e.Sub at a b) w)) (as_integer a w g) (negated bits (as_integer b w g)) g p.0 (ap is_number (negated-sort bits (as_integer b w g))) p.1
+      (negated-sound clafers scopes bits (as_integer b w g) g q.0 q.1 j) i
   sound (e.Mul at a b) w g st f narrow own =
       let h = and_parts (is_typed clafers a w && fits_number clafers (kind clafers a w)) (is_typed clafers b w && fits_number clafers (kind clafers b w)) f in
       let x = and_parts (is_typed clafers a w) (fits_number clafers (kind clafers a w)) h.0 in let y = and_parts (is_typed clafers b w) (fits_number clafers (kind clafers b w)) h.1 in
       let n = split-narrow (numeric clafers scopes a w ∷ inside clafers scopes a w) (numeric clafers scopes b w ∷ inside clafers scopes b w) narrow in
       let p = number-part a w g st x.0 x.1 n.0 (λ m o. sound a w g st x.0 m o) in let q = number-part b w g st y.0 y.1 n.1 (λ m o. sound b w g st y.0 m o) in
       let i = integer-holds (e.Mul at a b) w g st f refl (and_all (is_narrow (numeric clafers scopes (e.Mul at a b) w)) (list_all is_narrow (inside clafers scopes (e.Mul at a b) w)) (own refl) narrow) in
-      (p.0, q.0, p.1, q.1, record { well_made = i.sized; value = i.value })
+      multiplied-sound clafers scopes (width (interval clafers scopes (e.Mul at a b) w)) (as_integer a w g) (as_integer b w g) g p.0 q.0 p.1 q.1 i
   sound (e.Less _ a b) w g st f narrow own =
       let h = and_parts (is_typed clafers a w && fits_number clafers (kind clafers a w)) (is_typed clafers b w && fits_number clafers (kind clafers b w)) f in
       let x = and_parts (is_typed clafers a w) (fits_number clafers (kind clafers a w)) h.0 in let y = and_parts (is_typed clafers b w) (fits_number clafers (kind clafers b w)) h.1 in

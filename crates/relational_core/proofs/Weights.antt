@@ -1,8 +1,8 @@
 -- A relational expression is no heavier than its expression.
-use Rattle.std.proofs.Common.{◌≡◌, ℕ, zero, suc, ◌+◌, ◌*◌, ◌^◌, ◌<◌, ◌≤◌, Bool, true, false, not, cond, ◌&&◌, ◌||◌, List, [], ◌∷◌, ◌++◌, length, map, sum, Option, Some, None, refl, ap, sym, subst, ◌∙◌, arith}
-use Rattle.std.specs.Prelude.{is_some, replicate, max, nat_lt, nat_le}
-use Rattle.std.specs.Option.{option_map, option_map_or, option_and_then}
-use Rattle.std.specs.List.{list_all, list_any, filter_map}
+use Rattle.std.proofs.Common.{◌≡◌, ℕ, ◌+◌, ◌*◌, ◌^◌, ◌≤◌, Bool, true, false, not, cond, ◌&&◌, ◌||◌, List, [], ◌∷◌, ◌++◌, length, map, sum, Option, Some, None, refl, ap, sym, subst, ◌∙◌, arith}
+use Rattle.std.specs.Prelude.{is_some, replicate, max, nat_lt}
+use Rattle.std.specs.Option.{option_map, option_map_or}
+use Rattle.std.specs.List.{list_all, list_any}
 use Rattle.std.proofs.lemmas.Bool.{true≢false}
 use Rattle.clf_tree.specs.declared.token.Word.{Word}
 use Rattle.clf_tree.specs.declared.token.Word.TheVariants as word
@@ -14,14 +14,13 @@ use Rattle.clf_tree.specs.declared.kind.Kind.{Kind}
 use Rattle.clf_tree.specs.declared.kind.Kind.TheVariants as kinds
 use Rattle.clf_tree.specs.declared.kind.Reading.{Reading}
 use Rattle.clf_tree.specs.declared.kind.Reading.TheVariants.{ByValues, ByNodes}
-use Rattle.clf_tree.specs.declared.core_expr.Quantifier.TheVariants as quantifier
 use Rattle.clf_tree.specs.Tree as e
 use Rattle.clf_tree.specs.Tree.{Tree}
 use Rattle.clf_tree.specs.Lists.{each_two}
-use Rattle.clf_tree.specs.Hierarchy.{is_closed, is_one_of, refer_to_int, share, target_of, targets_of}
+use Rattle.clf_tree.specs.Hierarchy.{is_closed, refer_to_int, share, target_of, targets_of}
 use Rattle.clf_tree.specs.IntervalsHold.{IntervalsHold, refers_once}
 use Rattle.clf_tree.specs.Nodes.{scope_of}
-use Rattle.clf_tree.specs.Kinds.{kind, clafers_of, bind_kinds, branch_kind, parent_kind, parents_of, dref_kind, compared_kind, reading, reading_of, node_reading, shared}
+use Rattle.clf_tree.specs.Kinds.{kind, clafers_of, bind_kinds, parent_kind, parents_of, dref_kind, compared_kind, reading, reading_of, node_reading, shared}
 use Rattle.clf_tree.specs.Named as named
 use Rattle.clf_tree.specs.Named.{is_looked_up, is_quantifier, are_names, differ}
 use Rattle.clf_tree.specs.Typed.{is_typed, fits_truth, fits_number, fits_nodes, fits_sum, fit_together, fit_choice, fit_reading, fit_sides}
@@ -31,18 +30,19 @@ use Rattle.clf_tree.specs.Intervals as intervals
 use Rattle.clf_tree.specs.Numerics.{is_integer}
 use Rattle.clf_tree.specs.Core as c
 use Rattle.clf_tree.specs.Core.{Core}
-use Rattle.clf_tree.specs.CoreSoundness.{Sort, Nodes, Number, Truth, sort, clafers_in, is_set, is_number}
+use Rattle.clf_tree.specs.CoreSoundness.{Sort, Nodes, Number, Truth, sort, clafers_in, is_number}
 use Rattle.clf_tree.specs.CoreWeights.{core_weight, most_nodes, bits_of, range_width, count_weight, binary_digits}
 use Rattle.int_widths.specs.Weight.{most, most_targets, most_values, most_through, follow_weight, tested, counted, dref_weight, choice_weight, compared_weight, bits, weight}
-use Rattle.relational_core.specs.Lowered.{as_truth, as_number, negative, through, dref, same, part, choice, quant, kind_interval, lowered}
+use Rattle.relational_core.specs.Lowered.{as_truth, as_number, negative, negated, added, multiplied, through, dref, same, part, choice, quant, kind_interval, lowered}
 use Rattle.relational_core.specs.Lowered as lower
-use Rattle.relational_core.proofs.Passing.{and_parts, and_all}
+use Rattle.relational_core.proofs.Passing.{and_parts}
 use Rattle.relational_core.proofs.Kept.{three, four}
 use Rattle.relational_core.proofs.Made.{is_made, made, possible-made}
 use Rattle.relational_core.proofs.InKinds.{Inherited, in_kind, in_kinds, found-in}
 use Rattle.relational_core.proofs.CoreSorts.{sort_fits, sorted_core}
+use Rattle.relational_core.proofs.Constants.{negated-sort, added-sort, multiplied-sort, negated-light, added-light, multiplied-light}
 use Rattle.relational_core.proofs.WidthLaw.{sum_width, width_opposite}
-use Rattle.relational_core.proofs.Sound.{Stands, within-stands, sum-nodes, together-nodes, nodes-choice, kind_of_choice, is_by_nodes, by-nodes}
+use Rattle.relational_core.proofs.Sound.{Stands, within-stands, sum-nodes, together-nodes, kind_of_choice, is_by_nodes, by-nodes}
 use Rattle.relational_core.proofs.Sizes.{same_most, binary_more, count_more, test_more, steps_more, values_more, less_more, all_more, one_more, power_more, list-room}
 
 -- ---- sums of weights
@@ -215,6 +215,9 @@ module _ (clafers : List Clafer) (scopes : Scopes) where
   integer-sort (Some (kinds.Nodes ks)) s h f = absurd (true≢false (sym h))
   integer-sort (Some (kinds.Numbers ks)) s h f = absurd (true≢false (sym h))
 
+  abbrev number_of : Tree → Within → List (List ℕ) → Core
+  number_of t w g = as_number (kind clafers t w) (interval clafers scopes t w) (lowered clafers scopes t w g)
+
   abbrev OwnWidth : Tree → Within → List (List ℕ) → Type 0
   OwnWidth t w g = sort (lowered clafers scopes t w g) ≡ Number (bits clafers scopes t w)
 
@@ -226,10 +229,10 @@ module _ (clafers : List Clafer) (scopes : Scopes) where
   own-width (e.Literal at n) w g h s = refl
   own-width (e.Card at a) w g h s = refl
   own-width (e.Sum at a) w g h s = refl
-  own-width (e.Neg at a) w g h s = refl
-  own-width (e.Add at a b) w g h s = refl
-  own-width (e.Sub at a b) w g h s = refl
-  own-width (e.Mul at a b) w g h s = refl
+  own-width (e.Neg at a) w g h s = negated-sort (bits clafers scopes (e.Neg at a) w) (number_of a w g)
+  own-width (e.Add at a b) w g h s = added-sort (bits clafers scopes (e.Add at a b) w) (number_of a w g) (number_of b w g)
+  own-width (e.Sub at a b) w g h s = added-sort (bits clafers scopes (e.Sub at a b) w) (number_of a w g) (negated (width (negative (interval clafers scopes b w))) (number_of b w g))
+  own-width (e.Mul at a b) w g h s = multiplied-sort (bits clafers scopes (e.Mul at a b) w) (number_of a w g) (number_of b w g)
   own-width (e.If at t a b) w g h s =
       choice-number (kind clafers (e.If at t a b) w) (kind clafers a w) (kind clafers b w) (interval clafers scopes (e.If at t a b) w) (interval clafers scopes a w) (interval clafers scopes b w)
       (as_truth (kind clafers t w) (lowered clafers scopes t w g)) (lowered clafers scopes a w g) (lowered clafers scopes b w g) h
@@ -605,6 +608,12 @@ module _ (clafers : List Clafer) (scopes : Scopes) (closed : is_closed clafers �
   difference-parts : (p q r a b c d : ℕ) → p + q ≤ r → a ≤ c → b ≤ d → p + a + (q + b) ≤ r + c + d
   difference-parts p q r a b c d h i j = omega (arith, h, i, j)
 
+  below-both : (x y z : ℕ) → x ≤ y → y ≤ z → x ≤ z
+  below-both x y z h k = omega (arith, h, k)
+
+  below-difference : (x own a y other b z : ℕ) → x ≤ own + a + y → y ≤ other + b → own + a + (other + b) ≤ z → x ≤ z
+  below-difference x own a y other b z h k i = omega (arith, h, k, i)
+
   pub light : (t : Tree) (w : Within) (g : List (List ℕ)) → Placed w g → is_typed clafers t w ≡ true → is_looked_up clafers t w ≡ true → Light t w g
   light (e.Literal _ n) w g st f u = same_most 2
   light (e.This at) w g st f u = leaf (most clafers scopes (kind clafers (e.This at) w))
@@ -693,22 +702,35 @@ module _ (clafers : List Clafer) (scopes : Scopes) (closed : is_closed clafers �
       let h = and_parts (is_typed clafers a w) (fits_sum clafers (kind clafers a w)) f in count-light a w g st (sum-nodes clafers (kind clafers a w) h.1) (light a w g st h.0 u)
   light (e.Neg at a) w g st f u =
       let h = and_parts (is_typed clafers a w) (fits_number clafers (kind clafers a w)) f in
-      one-part (16 * (bits clafers scopes (e.Neg at a) w + 1)) (16 * (bits clafers scopes (e.Neg at a) w + 1)) (heavy (as_integer a w g)) (integer_weight a w) (same_most (16 * (bits clafers scopes (e.Neg at a) w + 1)))
-      (light-number a w g st h.1 (light a w g st h.0 u))
+      let width_of = bits clafers scopes (e.Neg at a) w in
+      below-both (heavy (negated width_of (as_integer a w g))) (16 * (width_of + 1) + heavy (as_integer a w g)) (16 * (width_of + 1) + integer_weight a w) (negated-light scopes width_of (as_integer a w g))
+      (one-part (16 * (width_of + 1)) (16 * (width_of + 1)) (heavy (as_integer a w g)) (integer_weight a w) (same_most (16 * (width_of + 1))) (light-number a w g st h.1 (light a w g st h.0 u)))
   light (e.Add at a b) w g st f u =
       let i = integers a b w f u in
-      let own = 16 * (bits clafers scopes (e.Add at a b) w + 1) in
-      sums-light own own a b w g st (same_most own) i.fits_left i.fits_right (light a w g st i.typed_left i.left) (light b w g st i.typed_right i.right)
+      let width_of = bits clafers scopes (e.Add at a b) w in
+      let own = 16 * (width_of + 1) in
+      below-both (heavy (added width_of (as_integer a w g) (as_integer b w g))) (own + heavy (as_integer a w g) + heavy (as_integer b w g)) (own + integer_weight a w + integer_weight b w)
+      (added-light scopes width_of (as_integer a w g) (as_integer b w g))
+      (sums-light own own a b w g st (same_most own) i.fits_left i.fits_right (light a w g st i.typed_left i.left) (light b w g st i.typed_right i.right))
   light (e.Sub at a b) w g st f u =
       let i = integers a b w f u in
-      difference-parts (16 * (bits clafers scopes (e.Sub at a b) w + 1)) (16 * (width (negative (interval clafers scopes b w)) + 1)) (16 * (bits clafers scopes (e.Sub at a b) w + bits clafers scopes b w + 3))
-      (heavy (as_integer a w g)) (heavy (as_integer b w g)) (integer_weight a w) (integer_weight b w)
-      (opposite-own (bits clafers scopes (e.Sub at a b) w) (width (negative (interval clafers scopes b w))) (bits clafers scopes b w) (width_opposite (interval clafers scopes b w)))
-      (light-number a w g st i.fits_left (light a w g st i.typed_left i.left)) (light-number b w g st i.fits_right (light b w g st i.typed_right i.right))
+      let width_of = bits clafers scopes (e.Sub at a b) w in
+      let opposite_width = width (negative (interval clafers scopes b w)) in
+      let opposite = negated opposite_width (as_integer b w g) in
+      let own = 16 * (width_of + bits clafers scopes b w + 3) in
+      below-difference (heavy (added width_of (as_integer a w g) opposite)) (16 * (width_of + 1)) (heavy (as_integer a w g)) (heavy opposite) (16 * (opposite_width + 1)) (heavy (as_integer b w g))
+      (own + integer_weight a w + integer_weight b w)
+      (added-light scopes width_of (as_integer a w g) opposite) (negated-light scopes opposite_width (as_integer b w g))
+      (difference-parts (16 * (width_of + 1)) (16 * (opposite_width + 1)) own (heavy (as_integer a w g)) (heavy (as_integer b w g)) (integer_weight a w) (integer_weight b w)
+      (opposite-own width_of opposite_width (bits clafers scopes b w) (width_opposite (interval clafers scopes b w)))
+      (light-number a w g st i.fits_left (light a w g st i.typed_left i.left)) (light-number b w g st i.fits_right (light b w g st i.typed_right i.right)))
   light (e.Mul at a b) w g st f u =
       let i = integers a b w f u in
-      let own = 16 * (bits clafers scopes (e.Mul at a b) w + 1) * (bits clafers scopes (e.Mul at a b) w + 1) in
-      sums-light own own a b w g st (same_most own) i.fits_left i.fits_right (light a w g st i.typed_left i.left) (light b w g st i.typed_right i.right)
+      let width_of = bits clafers scopes (e.Mul at a b) w in
+      let own = 16 * (width_of + 1) * (width_of + 1) in
+      below-both (heavy (multiplied width_of (as_integer a w g) (as_integer b w g))) (own + heavy (as_integer a w g) + heavy (as_integer b w g)) (own + integer_weight a w + integer_weight b w)
+      (multiplied-light scopes width_of (as_integer a w g) (as_integer b w g))
+      (sums-light own own a b w g st (same_most own) i.fits_left i.fits_right (light a w g st i.typed_left i.left) (light b w g st i.typed_right i.right))
   light (e.Less _ a b) w g st f u =
       let i = integers a b w f u in
       less-by-one (heavy (c.Less (as_integer a w g) (as_integer b w g))) (16 * (bits clafers scopes a w + bits clafers scopes b w + 2) + integer_weight a w + integer_weight b w)

@@ -1,6 +1,6 @@
 -- The relational expression of an expression.
-use Rattle.std.specs.Prelude.{ℕ, ◌&&◌, ◌||◌, Bool, true, false, List, [], ◌∷◌, ◌++◌, length, replicate, nat_lt, Option, Some, None, pos, neg_ℤ}
-use Rattle.std.specs.Option.{option_map_or}
+use Rattle.std.specs.Prelude.{ℕ, ◌&&◌, ◌||◌, Bool, true, false, List, [], ◌∷◌, ◌++◌, length, replicate, nat_lt, Option, Some, None, ℤ, pos, neg_ℤ, ◌+ℤ◌, ◌*ℤ◌, if◌then◌else◌}
+use Rattle.std.specs.Option.{option_map_or, option_and_then}
 use Rattle.std.specs.List.{filter, list_any}
 use Rattle.clf_tree.specs.declared.token.Word.{Word}
 use Rattle.clf_tree.specs.declared.token.Word.TheVariants as word
@@ -25,7 +25,7 @@ use Rattle.clf_tree.specs.Intervals.{interval, between, sum_between, room, membe
 use Rattle.int_widths.specs.Narrow.{within_context}
 use Rattle.clf_tree.specs.Core as c
 use Rattle.clf_tree.specs.Core.{Core}
-use Rattle.clf_tree.specs.CoreSoundness.{sort, clafers_in}
+use Rattle.clf_tree.specs.CoreSoundness.{sort, clafers_in, holds_integer}
 
 -- in truth position nodes are read as "not empty"
 abbrev pub as_truth : Option Kind → Core → Core
@@ -37,15 +37,36 @@ abbrev pub as_number : Option Kind → Bounds → Core → Core
 as_number (Some kinds.Integer) b a = a
 as_number _ b a = c.Total (width b) a
 
--- arithmetic
-abbrev pub negated : ℕ → Core → Core
-negated w a = c.Neg w a
+-- the integer of a constant
+abbrev pub constant : Core → Option ℤ
+constant (c.Const _ z) = Some z
+constant _ = None
 
-abbrev pub added : ℕ → Core → Core → Core
-added w a b = c.Add w a b
+-- an integer that 64 bits hold
+abbrev pub kept : ℤ → Option ℤ
+kept z = if holds_integer 64 z then Some z else None
 
-abbrev pub multiplied : ℕ → Core → Core → Core
-multiplied w a b = c.Mul w a b
+-- the integer that one constant, or two, make
+abbrev pub of_one : (ℤ → ℤ) → Core → Option ℤ
+of_one f a = option_and_then (λ x. kept (f x)) (constant a)
+
+abbrev pub of_two : (ℤ → ℤ → ℤ) → Core → Core → Option ℤ
+of_two f a b = option_and_then (λ x. option_and_then (λ y. kept (f x y)) (constant b)) (constant a)
+
+-- a form, or a constant where its integer is known
+abbrev pub folded : ℕ → Option ℤ → Core → Core
+folded w (Some z) a = c.Const w z
+folded w None a = a
+
+-- arithmetic; that of constants is done at once
+unfoldable pub negated : ℕ → Core → Core
+negated w a = folded w (of_one neg_ℤ a) (c.Neg w a)
+
+unfoldable pub added : ℕ → Core → Core → Core
+added w a b = folded w (of_two (λ x y. x +ℤ y) a b) (c.Add w a b)
+
+unfoldable pub multiplied : ℕ → Core → Core → Core
+multiplied w a b = folded w (of_two (λ x y. x *ℤ y) a b) (c.Mul w a b)
 
 -- what is never true
 abbrev pub never : Core

@@ -1,12 +1,12 @@
 //! Integers of finished parts.
 
-ghost use Rattle.std.specs.Prelude.{◌≡◌, ◌<◌, ◌^◌, ◌+ℤ◌, pos, neg_ℤ, Some, [], length, IfOk, IsTrue};
+ghost use Rattle.std.specs.Prelude.{◌≡◌, ◌<◌, ◌^◌, ◌+ℤ◌, ◌*ℤ◌, pos, neg_ℤ, Some, [], length, IfOk, IsTrue};
 ghost use Rattle.clf_tree.specs.Hierarchy.{is_closed};
 ghost use Rattle.clf_tree.specs.Core as Core;
 ghost use Rattle.clf_tree.specs.Core.{core};
 ghost use Rattle.clf_tree.specs.Intervals.{room, members, between, product};
 ghost use Rattle.clf_tree.specs.Widths.{width};
-ghost use Rattle.relational_core.specs.Lowered.{as_number, kind_interval, negated, added, multiplied, negative};
+ghost use Rattle.relational_core.specs.Lowered.{as_number, kind_interval, constant, of_one, of_two, negated, added, multiplied, negative};
 
 use crate::sides::{
     Pair, Side, Sides, counted, counted_pair, kind_bounds, kind_room, number_side, plain,
@@ -72,9 +72,54 @@ pub fn total(
     number_side(alloc, bounds, total)
 }
 
+/// The integer of a constant.
+fn constant(expr: &CoreExpr) -> Option<i64>
+    ensures { result ≡ constant (core expr.now) }
+{
+    match expr {
+        CoreExpr::Const { value, .. } => Some(*value),
+        _ => None,
+    }
+}
+
+/// The opposite of a constant, where 64 bits hold it.
+fn opposite_of(expr: &CoreExpr) -> Option<i64>
+    ensures { result ≡ of_one neg_ℤ (core expr.now) }
+{
+    constant(expr)?.checked_neg()
+}
+
+/// The sum of two constants, where 64 bits hold it.
+fn sum_of(left: &CoreExpr, right: &CoreExpr) -> Option<i64>
+    ensures { result ≡ of_two (λ x y. x +ℤ y) (core left.now) (core right.now) }
+{
+    constant(left)?.checked_add(constant(right)?)
+}
+
+/// The product of two constants, where 64 bits hold it.
+fn product_of(left: &CoreExpr, right: &CoreExpr) -> Option<i64>
+    ensures { result ≡ of_two (λ x y. x *ℤ y) (core left.now) (core right.now) }
+{
+    constant(left)?.checked_mul(constant(right)?)
+}
+
+fn known(alloc: Global, bounds: Bounds, value: i64) -> Result<Boxed<CoreExpr>, NoMemory>
+    ensures { IfOk result (λ r. core r ≡ Core.Const (width bounds) value) }
+{
+    let constant = CoreExpr::Const {
+        width: width(bounds),
+        value,
+    };
+    Ok(Boxed::new(alloc, constant)?)
+}
+
+#[tactic(auto, unfolding(crate::specs::Lowered::negated))]
 fn minus(alloc: Global, bounds: Bounds, of: Boxed<CoreExpr>) -> Result<Boxed<CoreExpr>, NoMemory>
     ensures { IfOk result (λ r. core r ≡ negated (width bounds) (core of)) }
 {
+    if let Some(value) = opposite_of(of.get()) {
+        return known(alloc, bounds, value);
+    }
     let negated = CoreExpr::Neg {
         width: width(bounds),
         of,
@@ -82,10 +127,14 @@ fn minus(alloc: Global, bounds: Bounds, of: Boxed<CoreExpr>) -> Result<Boxed<Cor
     Ok(Boxed::new(alloc, negated)?)
 }
 
+#[tactic(auto, unfolding(crate::specs::Lowered::added))]
 fn plus(alloc: Global, bounds: Bounds, pair: Pair) -> Result<Boxed<CoreExpr>, NoMemory>
     ensures { IfOk result (λ r. core r ≡ added (width bounds) (core pair.left) (core pair.right)) }
 {
     let Pair { left, right } = pair;
+    if let Some(value) = sum_of(left.get(), right.get()) {
+        return known(alloc, bounds, value);
+    }
     let sum = CoreExpr::Add {
         width: width(bounds),
         left,
@@ -94,10 +143,14 @@ fn plus(alloc: Global, bounds: Bounds, pair: Pair) -> Result<Boxed<CoreExpr>, No
     Ok(Boxed::new(alloc, sum)?)
 }
 
+#[tactic(auto, unfolding(crate::specs::Lowered::multiplied))]
 fn times(alloc: Global, bounds: Bounds, pair: Pair) -> Result<Boxed<CoreExpr>, NoMemory>
     ensures { IfOk result (λ r. core r ≡ multiplied (width bounds) (core pair.left) (core pair.right)) }
 {
     let Pair { left, right } = pair;
+    if let Some(value) = product_of(left.get(), right.get()) {
+        return known(alloc, bounds, value);
+    }
     let product = CoreExpr::Mul {
         width: width(bounds),
         left,

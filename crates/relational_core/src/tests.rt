@@ -4,6 +4,8 @@ ghost use Rattle.clf_tree.specs.Hierarchy.{is_below, is_closed, names_below};
 
 use crate::lower;
 use crate::lowering::lower_all;
+use crate::number_forms::{literal, multiple, opposite};
+use crate::sides::Sides;
 use clf_base::{List, Span};
 use clf_tree::{
     Clafer, CoreExpr, Expr, Form, Interval, Model, Named, Quantifier, Reference, Rule, Scopes,
@@ -181,5 +183,22 @@ fn a_model_without_constraints_has_no_truths(rt: HostRuntime) -> Result<(), Fail
     let typed = Typed::new(Named::new(model));
     let core = lower(alloc, &typed, &scopes)?;
     assert!(rt; core.clafers.is_empty());
+    Ok(())
+}
+
+#[test]
+fn constants_are_folded(rt: HostRuntime) -> Result<(), Fail> {
+    let alloc = rt.alloc();
+    let left = literal(alloc, 2)?;
+    let right = literal(alloc, 3)?;
+    let product = multiple(alloc, Sides { left, right })?;
+    let opposite = opposite(alloc, product)?;
+    match opposite.expr.get() {
+        CoreExpr::Const { width, value } => {
+            assert_eq!(rt; *width, 4);
+            assert_eq!(rt; *value, -6);
+        }
+        _ => assert!(rt; false),
+    }
     Ok(())
 }

@@ -37,16 +37,16 @@ pub map_same : {X Y : Type 0} (f g : X → Y) (xs : List X) → All (λ x. f x �
 map_same f g [] h = refl
 map_same f g (x ∷ xs) h = ap (λ y. y ∷ map f xs) (h 0 x (omega arith)) ∙ ap (λ ys. g x ∷ ys) (map_same f g xs (λ k d l. h (suc k) d (omega (arith, l))))
 
-any_at : {X : Type 0} (p : X → Bool) (xs : List X) (k : ℕ) (d : X) → k < length xs → p (get_or xs k d) ≡ true → list_any p xs ≡ true
+pub any_at : {X : Type 0} (p : X → Bool) (xs : List X) (k : ℕ) (d : X) → k < length xs → p (get_or xs k d) ≡ true → list_any p xs ≡ true
 any_at p [] k d l t = absurd (omega (arith, l))
 any_at p (x ∷ xs) zero d l t = ap (λ b. b || list_any p xs) t
 any_at p (x ∷ xs) (suc k) d l t = or_right (p x) (list_any p xs) (any_at p xs k d (omega (arith, l)) t)
 
-any_map : {X Y : Type 0} (p : Y → Bool) (f : X → Y) (xs : List X) → list_any p (map f xs) ≡ list_any (λ x. p (f x)) xs
+pub any_map : {X Y : Type 0} (p : Y → Bool) (f : X → Y) (xs : List X) → list_any p (map f xs) ≡ list_any (λ x. p (f x)) xs
 any_map p f [] = refl
 any_map p f (x ∷ xs) = ap (λ b. p (f x) || b) (any_map p f xs)
 
-any_range : (p : ℕ → Bool) (a m i : ℕ) → a ≤ i → i < a + m → p i ≡ true → list_any p (range_with_len a m) ≡ true
+pub any_range : (p : ℕ → Bool) (a m i : ℕ) → a ≤ i → i < a + m → p i ≡ true → list_any p (range_with_len a m) ≡ true
 any_range p a zero i low high t = absurd (omega (arith, low, high))
 any_range p a (suc m) i low high t = by (eqb_tells a i) (any_range p (a + 1) m i)
   where
@@ -271,7 +271,7 @@ integer_where clafers scopes entries e h = by (reference_of clafers e.node.clafe
     by : (o : Option Reference) → reference_of clafers e.node.clafer ≡ o → (t : Option Target) → e.target ≡ t → is_some (target_integer e) ≡ refers_to_int clafers e.node.clafer
     by o s t u = ap (λ t. is_some (option_and_then integer_in t)) u ∙ sides o t (meets o s t u) ∙ sym (ap (λ o. option_map_or (λ (r : Reference). is_none r.to) o false) s)
 
-value_where : (clafers : List Clafer) (slots : List Node) (values : List SlotBits) (n : Node) → map (λ v. v.slot) values ≡ integer_slots clafers slots → has_node slots n ≡ true → has_value_bits slots values n ≡ refers_to_int clafers n.clafer
+pub value_where : (clafers : List Clafer) (slots : List Node) (values : List SlotBits) (n : Node) → map (λ v. v.slot) values ≡ integer_slots clafers slots → has_node slots n ≡ true → has_value_bits slots values n ≡ refers_to_int clafers n.clafer
 value_where clafers slots values n e h =
     let s = slot_of slots n h in
     sym (any_map (λ k. same_node (slot slots k) n) (λ (v : SlotBits). v.slot) values)

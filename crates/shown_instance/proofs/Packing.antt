@@ -11,7 +11,7 @@ use Rattle.clf_tree.specs.declared.instance.Entry.{Entry}
 use Rattle.clf_tree.specs.declared.scopes.Scopes.{Scopes}
 use Rattle.clf_tree.specs.Lists.{each_two}
 use Rattle.clf_tree.specs.Hierarchy.{is_concrete}
-use Rattle.clf_tree.specs.Nodes.{has_node, nodes_of, named_by, target_node, scope_of, parent_in, is_within, is_ordered, is_tree, has_its_parent, ends_within, fits_range}
+use Rattle.clf_tree.specs.Nodes.{has_node, nodes_of, named_by, target_node, scope_of, parent_in, is_within, is_in_range, is_ordered, is_tree, has_its_parent, ends_within, fits_range}
 use Rattle.clf_tree.specs.Shape.{has_shape, meets_reference, differ}
 use Rattle.set_bits.specs.declared.layout.Edge.{Edge}
 use Rattle.set_bits.specs.declared.layout.Layout.{Layout}
@@ -24,11 +24,19 @@ use Rattle.shown_instance.proofs.Fitted.{node_inside}
 use Rattle.shown_instance.proofs.Reading.{read_part, numbers_read, numbers_length}
 use Rattle.shown_instance.proofs.Belonging.{all_of, map_same, parent_edge, target_edge, value_there, integer_ranged, named_itself}
 
+meets_each : (clafers : List Clafer) (scopes : Scopes) (entries : List Entry) → has_shape clafers scopes entries ≡ true → (k : ℕ) (d : Entry) → k < length entries → meets_reference clafers entries scopes (get_or entries k d) ≡ true
+meets_each clafers scopes entries shape k d l =
+    all_pass (meets_reference clafers entries scopes) entries (both _ (list_all (meets_reference clafers entries scopes) entries) (both _ (each_two (differ clafers entries) entries) shape).0).1 k d l
+
+pub shaped_in_range : (clafers : List Clafer) (scopes : Scopes) (entries : List Entry) → has_shape clafers scopes entries ≡ true → is_in_range scopes entries ≡ true
+shaped_in_range clafers scopes entries shape =
+    all_of (λ (e : Entry). option_map_or (fits_range scopes) e.target true) entries (λ k d l. integer_ranged clafers scopes entries (get_or entries k d) (meets_each clafers scopes entries shape k d l))
+
 pub packed_shows : (clafers : List Clafer) (scopes : Scopes) (layout : Layout) (bits : List Bool) (entries : List Entry) → Fits clafers scopes layout → is_within clafers scopes entries ≡ true → is_ordered entries ≡ true → is_tree clafers entries ≡ true → has_shape clafers scopes entries ≡ true
     → IsPacked layout entries bits → Shows clafers scopes layout bits entries
 packed_shows clafers scopes layout bits entries f within ordered tree shape p = record {
   within = within;
-  in_range = all_of (λ (e : Entry). option_map_or (fits_range scopes) e.target true) entries (λ k d l. integer_ranged clafers scopes entries (get_or entries k d) (meets k d l));
+  in_range = shaped_in_range clafers scopes entries shape;
   ordered = ordered;
   size = sized;
   live = read_part (λ (w : Wire). w.number) layout.live [] lives (parents ++ (targets ++ numbers)) bits p.whole (f.live ∙ ap (range_with_len 0) (sym lives_many));
@@ -93,4 +101,4 @@ packed_shows clafers scopes layout bits entries f within ordered tree shape p = 
         (both (list_all (λ (n : Node). is_concrete clafers n.clafer) (named_by e) && has_its_parent clafers entries e) (ends_within (length entries) entries e.parent) whole).0).1
 
     meets : (k : ℕ) (d : Entry) → k < length entries → meets_reference clafers entries scopes (get_or entries k d) ≡ true
-    meets k d l = all_pass (meets_reference clafers entries scopes) entries (both _ (list_all (meets_reference clafers entries scopes) entries) (both _ (each_two (differ clafers entries) entries) shape).0).1 k d l
+    meets k d l = meets_each clafers scopes entries shape k d l

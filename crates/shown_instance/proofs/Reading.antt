@@ -17,7 +17,7 @@ use Rattle.set_bits.specs.Showing.{integer_target_in, is_value, value_bits}
 use Rattle.shown_instance.specs.Packed.{are_numbers}
 use Rattle.shown_instance.proofs.Order.{both, together}
 
-read_range : (front mid back : List Bool) → map (λ k. get_or (front ++ (mid ++ back)) k false) (range_with_len (length front) (length mid)) ≡ mid
+pub read_range : (front mid back : List Bool) → map (λ k. get_or (front ++ (mid ++ back)) k false) (range_with_len (length front) (length mid)) ≡ mid
 read_range front [] back = refl
 read_range front (x ∷ mid) back =
     let first : get_or (front ++ (x ∷ mid ++ back)) (length front) false ≡ x = get_or-append_seam front x (mid ++ back) false in
@@ -37,7 +37,7 @@ read_part number xs front mid back bits e wired =
 
 -- ---- the integers
 
-range-append : (a m n : ℕ) → range_with_len a (m + n) ≡ range_with_len a m ++ range_with_len (a + m) n
+pub range-append : (a m n : ℕ) → range_with_len a (m + n) ≡ range_with_len a m ++ range_with_len (a + m) n
 range-append a zero n = let e : a + 0 ≡ a = omega arith in let z : 0 + n ≡ n = omega arith in rw (e, z) refl
 range-append a (suc m) n = let e : a + suc m ≡ (a + 1) + m = omega arith in let z : suc m + n ≡ suc (m + n) = omega arith in rw (e, z) (ap (λ xs. a ∷ xs) (range-append (a + 1) m n))
 

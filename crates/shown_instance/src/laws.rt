@@ -8,7 +8,7 @@ ghost use Rattle.clf_tree.specs.declared.instance.Entry.{Entry};
 ghost use Rattle.set_bits.specs.declared.layout.Layout.{Layout};
 ghost use Rattle.set_bits.specs.Fitting.{Fits};
 ghost use Rattle.set_bits.specs.Showing.{Shows};
-ghost use Rattle.clf_tree.specs.Nodes.{entry_of, is_within, is_ordered, is_tree};
+ghost use Rattle.clf_tree.specs.Nodes.{entry_of, is_in_range, is_within, is_ordered, is_tree};
 ghost use Rattle.clf_tree.specs.Shape.{has_shape};
 ghost use Rattle.shown_instance.specs.Packed.{IsPacked, aligned, is_between};
 ghost use Rattle.shown_instance.specs.Shown.{shown};
@@ -33,4 +33,14 @@ pub fn edges_lie_between_slots()
     ensures parents { (clafers : List Clafer) (scopes : Scopes) (layout : Layout) → Fits clafers scopes layout → IsTrue (list_all (is_between layout.slots) layout.parents) }
     ensures targets { (clafers : List Clafer) (scopes : Scopes) (layout : Layout) → Fits clafers scopes layout → IsTrue (list_all (is_between layout.slots) layout.targets) }
     ensures values { (clafers : List Clafer) (scopes : Scopes) (layout : Layout) → Fits clafers scopes layout → IsTrue (list_all (λ v. nat_lt v.slot (length layout.slots)) layout.values) }
+{}
+
+/// The integers of an instance of the right shape are in the range.
+pub fn integers_are_in_range()
+    ensures { (clafers : List Clafer) (scopes : Scopes) (entries : List Entry) → IsTrue (has_shape clafers scopes entries) → IsTrue (is_in_range scopes entries) }
+{}
+
+/// At most one list of bits shows an instance.
+pub fn one_list_of_bits_shows()
+    ensures { (clafers : List Clafer) (scopes : Scopes) (layout : Layout) (some : List Bool) (others : List Bool) (entries : List Entry) → Fits clafers scopes layout → Shows clafers scopes layout some entries → Shows clafers scopes layout others entries → some ≡ others }
 {}

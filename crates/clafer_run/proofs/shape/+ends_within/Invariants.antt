@@ -1,4 +1,0 @@
-use Rattle.clafer_run.proofs.shape.+ends_within.Given as goal
-
-abbrev pub decreases-ends_within : goal.decreases-ends_within
-decreases-ends_within l = l.steps

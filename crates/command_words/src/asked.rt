@@ -1,0 +1,190 @@
+//! What the words have asked for so far.
+
+ghost use Rattle.std.specs.Prelude.{◌≡◌, ◌≤◌, length, IfOk};
+ghost use Rattle.command_words.specs.Words as spec;
+
+use crate::numbers::{begins_with_dash, integer, number};
+use crate::settings::{Setting, given_scope, setting_named};
+use clf_base::{List, NoMemory};
+use clf_tree::GivenScope;
+use std::alloc::Global;
+
+/// What the words have asked for so far.
+#[derive(Debug, Drop)]
+pub struct Asked {
+    /// `one` was there.
+    pub one: bool,
+    /// `--` was there, so no setting comes any more.
+    pub ended: bool,
+    /// A setting whose value is the next word.
+    pub awaited: Option<Setting>,
+    pub scopes: List<GivenScope>,
+    pub default: Option<u64>,
+    pub low: Option<i64>,
+    pub high: Option<i64>,
+}
+
+impl Asked {
+    /// Nothing, which takes no memory.
+    pub fn nothing(alloc: Global) -> Asked
+        ensures { result ≡ spec.nothing_asked }
+    {
+        Asked {
+            one: false,
+            ended: false,
+            awaited: None,
+            scopes: List::new(alloc),
+            default: None,
+            low: None,
+            high: None,
+        }
+    }
+}
+
+fn with_scope(asked: Asked, scope: Option<GivenScope>) -> Result<Option<Asked>, NoMemory>
+    ensures { IfOk result (λ more. more ≡ spec.with_scope asked scope) }
+{
+    let Some(scope) = scope else {
+        return Ok(None);
+    };
+    let mut scopes = asked.scopes;
+    scopes.push(scope)?;
+    Ok(Some(Asked {
+        scopes,
+        awaited: None,
+        ..asked
+    }))
+}
+
+fn with_default(asked: Asked, most: Option<u64>) -> Option<Asked>
+    ensures { result ≡ spec.with_default asked most }
+{
+    if asked.default.is_some() {
+        return None;
+    }
+    let most = most?;
+    Some(Asked {
+        default: Some(most),
+        awaited: None,
+        ..asked
+    })
+}
+
+fn with_low(asked: Asked, low: Option<i64>) -> Option<Asked>
+    ensures { result ≡ spec.with_low asked low }
+{
+    if asked.low.is_some() {
+        return None;
+    }
+    let low = low?;
+    Some(Asked {
+        low: Some(low),
+        awaited: None,
+        ..asked
+    })
+}
+
+fn with_high(asked: Asked, high: Option<i64>) -> Option<Asked>
+    ensures { result ≡ spec.with_high asked high }
+{
+    if asked.high.is_some() {
+        return None;
+    }
+    let high = high?;
+    Some(Asked {
+        high: Some(high),
+        awaited: None,
+        ..asked
+    })
+}
+
+/// With the value of a setting; None where it is no value of it, or the setting was given before.
+#[tactic(auto, unfolding(crate::specs::Words::with_value))]
+fn with_value(
+    alloc: Global,
+    setting: Setting,
+    value: &[u8],
+    asked: Asked,
+) -> Result<Option<Asked>, NoMemory>
+    ensures { IfOk result (λ more. more ≡ spec.with_value setting value.now asked) }
+{
+    match setting {
+        Setting::Scope => {
+            let scope = given_scope(alloc, value)?;
+            with_scope(asked, scope)
+        }
+        Setting::DefaultScope => Ok(with_default(asked, number(value))),
+        Setting::IntLow => Ok(with_low(asked, integer(value))),
+        Setting::IntHigh => Ok(with_high(asked, integer(value))),
+    }
+}
+
+/// How many bytes of a word stand before its first `=`.
+fn name_length(word: &[u8]) -> usize
+    ensures name { result ≡ spec.name_length word.now }
+    ensures within { result ≤ length word.now }
+{
+    word.iter().take_while(|byte| **byte != b'=').count()
+}
+
+/// With a setting, whose value stands behind the first `=` of its word, or is the next word.
+#[tactic(auto, unfolding(crate::specs::Words::with_setting))]
+fn with_setting(
+    alloc: Global,
+    word: &[u8],
+    asked: Asked,
+    setting: Setting,
+) -> Result<Option<Asked>, NoMemory>
+    ensures { IfOk result (λ more. more ≡ spec.with_setting word.now asked setting) }
+{
+    let name = name_length(word);
+    if name < word.len() {
+        return with_value(alloc, setting, &word[name + 1..], asked);
+    }
+    Ok(Some(Asked {
+        awaited: Some(setting),
+        ..asked
+    }))
+}
+
+/// With a word that isn't the value of the setting before it.
+#[tactic(auto, unfolding(crate::specs::Words::with_free_word))]
+fn with_free_word(alloc: Global, word: &[u8], asked: Asked) -> Result<Option<Asked>, NoMemory>
+    ensures { IfOk result (λ more. more ≡ spec.with_free_word word.now asked) }
+{
+    if word == b"one".as_slice() {
+        if asked.one {
+            return Ok(None);
+        }
+        return Ok(Some(Asked { one: true, ..asked }));
+    }
+    if asked.ended {
+        return Ok(None);
+    }
+    if word == b"--".as_slice() {
+        return Ok(Some(Asked {
+            ended: true,
+            ..asked
+        }));
+    }
+    match setting_named(&word[..name_length(word)]) {
+        Some(setting) => with_setting(alloc, word, asked, setting),
+        None => Ok(None),
+    }
+}
+
+/// With one more word; None where it can't stand there.
+#[tactic(auto, unfolding(crate::specs::Words::with_word))]
+pub(crate) fn with_word(alloc: Global, word: &[u8], asked: Asked) -> Result<Option<Asked>, NoMemory>
+    ensures { IfOk result (λ more. more ≡ spec.with_word word.now asked) }
+{
+    match asked.awaited {
+        Some(setting) => {
+            if begins_with_dash(word) {
+                return Ok(None);
+            }
+            with_value(alloc, setting, word, asked)
+        }
+        None => with_free_word(alloc, word, asked),
+    }
+}

@@ -1,0 +1,11 @@
+//! The words of the command line: what they ask for, and what they give for the model.
+#![tactic(auto)]
+
+mod asked;
+mod numbers;
+mod reading;
+mod settings;
+#[cfg(test)]
+mod tests;
+
+pub use reading::{Request, words_of};

@@ -1,0 +1,2 @@
+pub mod FirstShape
+pub mod Trial

@@ -1,4 +1,0 @@
-mod Growth
-mod Joining
-mod Parts
-mod Children

@@ -1,3 +1,0 @@
-pub mod FirstModel
-pub mod FirstShape
-pub mod Grown

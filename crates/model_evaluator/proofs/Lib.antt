@@ -1,0 +1,12 @@
+pub mod Below
+pub mod Bound
+pub mod Clamps
+pub mod Decided
+pub mod Exact
+pub mod Integers
+pub mod Reached
+pub mod Same
+pub mod Settled
+pub mod BooleanTests
+pub mod Totals
+pub mod Tuples

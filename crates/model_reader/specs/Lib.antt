@@ -1,0 +1,4 @@
+pub mod Texts
+pub mod Models
+pub mod Ranges
+pub mod Reading

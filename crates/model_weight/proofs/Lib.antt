@@ -1,0 +1,13 @@
+pub mod Caps
+pub mod Choosing
+pub mod Comparing
+pub mod Digits
+pub mod IntervalsByKind
+pub mod LightLaw
+pub mod Narrowness
+pub mod NoRoom
+pub mod Ranges
+pub mod Same
+pub mod Totals
+pub mod Verdicts
+pub mod WideLaw

@@ -1,0 +1,5 @@
+pub mod Capped
+pub mod Clafers
+pub mod Light
+pub mod Measures
+pub mod Refusals

@@ -1,0 +1,15 @@
+//! Whether bits show an instance, as wires of a circuit.
+//!
+//! Each rule is a wire that is exact at every list of bits. It takes the wires of a layout for the bits, and adds a number of wires that its
+//! contract tells.
+#![tactic(auto)]
+
+mod consistency;
+mod laws;
+mod placement;
+mod ranges;
+mod taking;
+
+pub use consistency::consistent;
+pub use laws::layouts_that_fit_are_laid;
+pub use placement::{have_parents, have_targets};
