@@ -1,3 +1,4 @@
+pub mod Alone
 pub mod Caps
 pub mod Choosing
 pub mod Comparing
@@ -6,8 +7,11 @@ pub mod IntervalsByKind
 pub mod LightLaw
 pub mod Narrowness
 pub mod NoRoom
+pub mod Owners
 pub mod Ranges
+pub mod RoomSums
 pub mod Same
 pub mod Totals
+pub mod Upwards
 pub mod Verdicts
 pub mod WideLaw

@@ -16,7 +16,6 @@ use Rattle.clf_tree.specs.declared.kind.Reading.TheVariants.{ByValues, ByNodes}
 use Rattle.clf_tree.specs.Tree as e
 use Rattle.clf_tree.specs.Tree.{Tree, tree}
 use Rattle.clf_tree.specs.Lists.{numbers_below}
-use Rattle.clf_tree.specs.Hierarchy.{owners}
 use Rattle.clf_tree.specs.Nodes.{scope_of}
 use Rattle.clf_tree.specs.Kinds.{kind, clafers_of, bind_kinds, reading_of}
 use Rattle.clf_tree.specs.Intervals.{room}
@@ -358,11 +357,11 @@ module _ (clafers : List Clafer) (scopes : Scopes) where
       (8 * room clafers scopes (c ∷ []) * (counted_to k.times (room clafers scopes (c ∷ [])) + 1))
       (count_below_same (room clafers scopes (c ∷ [])) (counted_to k.times (room clafers scopes (c ∷ []))) (room clafers scopes (c ∷ [])) (counted_to k.times (room clafers scopes (c ∷ [])))
       (itself (room clafers scopes (c ∷ []))) (itself (counted_to k.times (room clafers scopes (c ∷ []))))))
-      (concrete_same (scope_of scopes c) (spec.scopes_of clafers scopes (owners clafers c)) (owner_room clafers scopes c) (target_slots clafers scopes c) (has_pairs clafers scopes c k) (counted_to k.times (scope_of scopes c))
-      (added_same (scope_of scopes) (scope_of scopes) (owners clafers c) (λ d. itself (scope_of scopes d)))))
-      (where_not (is_any k.group) (spec.counting_below (room clafers scopes (c ∷ [])) (spec.children clafers scopes c) (counted_to k.group (spec.children clafers scopes c)))
+      (concrete_same (scope_of scopes c) (owner_room clafers scopes c) (owner_room clafers scopes c) (target_slots clafers scopes c) (has_pairs clafers scopes c k) (counted_to k.times (scope_of scopes c))
+      (itself (owner_room clafers scopes c))))
+      (where_not (is_any k.group) (spec.counting_below (room clafers scopes (c ∷ [])) (child_room clafers scopes c) (counted_to k.group (child_room clafers scopes c)))
       (8 * room clafers scopes (c ∷ []) * child_room clafers scopes c * (counted_to k.group (child_room clafers scopes c) + 1))
-      (group_same (room clafers scopes (c ∷ [])) (spec.children clafers scopes c) (child_room clafers scopes c) k.group (capped_same (child_room clafers scopes c))))
+      (group_same (room clafers scopes (c ∷ [])) (child_room clafers scopes c) (child_room clafers scopes c) k.group (itself (child_room clafers scopes c))))
 
   at_same : (c : ℕ) (o : Option Clafer) → Same (option_map_or (spec.light_clafer clafers scopes c) o 0) (option_map_or (w.clafer_weight clafers scopes c) o 0)
   at_same c None = itself 0

@@ -17,7 +17,7 @@ capped_plus a b = pick (leb_tells limit a)
     pick (inl k) = ap (λ z. plus z b) (at-limit a k.1) ∙ at-limit (limit + b) (omega arith) ∙ sym (at-limit (a + b) (omega (arith, k.1)))
     pick (inr k) = ap (λ z. plus z b) (below-limit a k.1)
 
-sums-append : (f : ℕ → ℕ) (xs ys : List ℕ) → sum (map f (xs ++ ys)) ≡ sum (map f xs) + sum (map f ys)
+pub sums-append : (f : ℕ → ℕ) (xs ys : List ℕ) → sum (map f (xs ++ ys)) ≡ sum (map f xs) + sum (map f ys)
 sums-append f xs ys = sum-map f (xs ++ ys) ∙ sum_by-append f xs ys ∙ ap (λ n. n + sum_by f ys) (sym (sum-map f xs)) ∙ ap (λ n. sum (map f xs) + n) (sym (sum-map f ys))
 
 sums-one : {X : Type 0} (f : X → ℕ) (xs : List X) (x : X) → sum (map f (xs ++ x ∷ [])) ≡ sum (map f xs) + f x
@@ -41,31 +41,6 @@ numbers_more n = sym (map-itself (numbers_below (n + 1))) ∙ map-range_with_len
 pub number_total : (f : ℕ → ℕ) (i t n : ℕ) → t ≡ capped (sum (map f (numbers_below i))) → n ≡ f i → plus t n ≡ capped (sum (map f (numbers_below (i + 1))))
 number_total f i t n e g = total_more f (numbers_below i) (numbers_below (i + 1)) i t n e g (numbers_more i)
 
-filtered : (p : ℕ → Bool) (i : ℕ) → filter p (numbers_below (i + 1)) ≡ filter p (numbers_below i) ++ filter p (i ∷ [])
+-- what a filter keeps of one number more
+pub filtered : (p : ℕ → Bool) (i : ℕ) → filter p (numbers_below (i + 1)) ≡ filter p (numbers_below i) ++ filter p (i ∷ [])
 filtered p i = ap (filter p) (numbers_more i) ∙ filter-append p (numbers_below i) (i ∷ [])
-
-pub kept_total : (f : ℕ → ℕ) (p : ℕ → Bool) (i t n : ℕ) → t ≡ capped (sum (map f (filter p (numbers_below i)))) → n ≡ f i → p i ≡ true → plus t n ≡ capped (sum (map f (filter p (numbers_below (i + 1)))))
-kept_total f p i t n e g h =
-    total_more f (filter p (numbers_below i)) (filter p (numbers_below (i + 1))) i t n e g (filtered p i ∙ ap (λ b. filter p (numbers_below i) ++ cond b (i ∷ []) []) h)
-
-pub left_total : (f : ℕ → ℕ) (p : ℕ → Bool) (i t : ℕ) → t ≡ capped (sum (map f (filter p (numbers_below i)))) → p i ≡ false → t ≡ capped (sum (map f (filter p (numbers_below (i + 1)))))
-left_total f p i t e h =
-    e ∙ ap (λ xs. capped (sum (map f xs))) (sym (filtered p i ∙ ap (λ b. filter p (numbers_below i) ++ cond b (i ∷ []) []) h ∙ nothing (filter p (numbers_below i))))
-  where
-    nothing : (xs : List ℕ) → xs ++ [] ≡ xs
-    nothing [] = refl
-    nothing (x ∷ xs) = ap (λ ys. x ∷ ys) (nothing xs)
-
-pub child_total : (f : ℕ → ℕ) (p : ℕ → Bool) (i t n : ℕ) → t ≡ capped (sum (map f (filter p (numbers_below i)))) → n ≡ cond (p i) (f i) 0 → plus t n ≡ capped (sum (map f (filter p (numbers_below (i + 1)))))
-child_total f p i t n e g = pick (p i) refl g
-  where
-    nothing : (a : ℕ) → a + 0 ≡ a
-    nothing a = omega arith
-
-    pick : (b : Bool) → p i ≡ b → n ≡ cond b (f i) 0 → plus t n ≡ capped (sum (map f (filter p (numbers_below (i + 1)))))
-    pick true h k = kept_total f p i t n e k h
-    pick false h k =
-        ap (plus t) k ∙ ap (λ z. plus z 0) e ∙ capped_plus (sum (map f (filter p (numbers_below i)))) 0 ∙ ap capped (nothing (sum (map f (filter p (numbers_below i)))))
-        ∙ left_total f p i (capped (sum (map f (filter p (numbers_below i))))) refl h
-
-pub ruleset totals = (number_total, child_total)

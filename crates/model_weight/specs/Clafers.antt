@@ -1,7 +1,6 @@
 -- The weights of clafers, constraints and goals, with numbers that count no further than to the limit.
 use Rattle.std.specs.Prelude.{ℕ, Bool, List, [], ◌∷◌, length, map, sum, max, slice_get, Option, None, if◌then◌else◌}
 use Rattle.std.specs.Option.{option_map_or}
-use Rattle.std.specs.List.{filter}
 use Rattle.clf_base.specs.declared.fault.Refusal.{Refusal}
 use Rattle.clf_tree.specs.declared.model.Clafer.{Clafer}
 use Rattle.clf_tree.specs.declared.model.Rule.{Rule}
@@ -10,13 +9,12 @@ use Rattle.clf_tree.specs.declared.model.Model.{Model}
 use Rattle.clf_tree.specs.declared.scopes.Scopes.{Scopes}
 use Rattle.clf_tree.specs.Tree.{tree}
 use Rattle.clf_tree.specs.Lists.{numbers_below}
-use Rattle.clf_tree.specs.Hierarchy.{owners}
 use Rattle.clf_tree.specs.Nodes.{scope_of}
-use Rattle.clf_tree.specs.Kinds.{kind, is_child}
+use Rattle.clf_tree.specs.Kinds.{kind}
 use Rattle.clf_tree.specs.Intervals.{interval, room}
 use Rattle.clf_tree.specs.Numerics.{place}
 use Rattle.int_widths.specs.Narrow.{within_context}
-use Rattle.int_widths.specs.Weight.{rule_instances, target_slots, has_pairs, counted_to, is_any}
+use Rattle.int_widths.specs.Weight.{rule_instances, owner_room, child_room, target_slots, has_pairs, counted_to, is_any}
 use Rattle.model_weight.specs.Capped.{capped, plus, times, total}
 use Rattle.model_weight.specs.Light.{tested, counted, light, n_of}
 use Rattle.model_weight.specs.Refusals.{first_of, with_own, wide_inside}
@@ -35,15 +33,9 @@ abbrev pub counting_below : ℕ → ℕ → ℕ → ℕ
 counting_below d m u = times (times (times 8 d) m) (plus u 1)
 
 module _ (clafers : List Clafer) (scopes : Scopes) where
-  abbrev pub scopes_of : List ℕ → ℕ
-  scopes_of ks = total (scope_of scopes) 0 ks
-
-  abbrev pub children : ℕ → ℕ
-  children c = capped (sum (map (scope_of scopes) (filter (is_child clafers c) (numbers_below (length clafers)))))
-
   abbrev pub light_concrete : ℕ → Clafer → ℕ
   light_concrete c k =
-      concrete (scope_of scopes c) (scopes_of (owners clafers c)) (target_slots clafers scopes c) (has_pairs clafers scopes c k)
+      concrete (scope_of scopes c) (owner_room clafers scopes c) (target_slots clafers scopes c) (has_pairs clafers scopes c k)
       (counted_to k.times (scope_of scopes c))
 
   abbrev pub light_abstract : ℕ → Clafer → ℕ
@@ -52,7 +44,7 @@ module _ (clafers : List Clafer) (scopes : Scopes) where
 
   abbrev pub light_group : ℕ → Clafer → ℕ
   light_group c k =
-      if is_any k.group then 0 else counting_below (room clafers scopes (c ∷ [])) (children c) (counted_to k.group (children c))
+      if is_any k.group then 0 else counting_below (room clafers scopes (c ∷ [])) (child_room clafers scopes c) (counted_to k.group (child_room clafers scopes c))
 
   abbrev pub light_clafer : ℕ → Clafer → ℕ
   light_clafer c k = plus (if k.is_abstract then light_abstract c k else light_concrete c k) (light_group c k)

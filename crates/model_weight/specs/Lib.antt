@@ -3,3 +3,4 @@ pub mod Clafers
 pub mod Light
 pub mod Measures
 pub mod Refusals
+pub mod Sums

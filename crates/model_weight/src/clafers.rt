@@ -1,120 +1,45 @@
 //! The weights of clafers.
 
-ghost use Rattle.std.specs.Prelude.{◌≡◌, ◌∷◌, [], ◌<◌, ◌^◌, false, not, max, length, map, sum, IfOk, IsTrue, if◌then◌else◌};
+ghost use Rattle.std.specs.Prelude.{◌≡◌, ◌<◌, false, not, max, length, map, sum, if◌then◌else◌};
 ghost use Rattle.std.specs.Option.{option_map_or};
-ghost use Rattle.clf_tree.specs.Hierarchy.{is_closed, reference_of};
+ghost use Rattle.clf_tree.specs.Hierarchy.{reference_of};
 ghost use Rattle.clf_tree.specs.Lists.{numbers_below};
-ghost use Rattle.clf_tree.specs.Kinds.{is_child};
-ghost use Rattle.clf_tree.specs.Nodes.{scope_of};
-ghost use Rattle.clf_tree.specs.Intervals.{room};
-ghost use Rattle.int_widths.specs.Weight.{target_room, target_slots, has_pairs, counted_to, is_any, is_single};
+ghost use Rattle.int_widths.specs.Weight.{owner_room, target_room, target_slots, has_pairs, counted_to, is_any, is_single};
 ghost use Rattle.model_weight.specs.Capped.{capped};
 ghost use Rattle.model_weight.specs.Clafers as spec;
 
 use crate::numbers::{plus, range_width, times};
-use clf_base::{List, NoMemory};
-use clf_tree::{Clafer, Interval, Scopes, owners, reference_of};
-use int_widths::room;
-use std::alloc::Global;
+use crate::rooms::Rooms;
+use clf_base::List;
+use clf_tree::{Clafer, Interval, reference_of};
 
-fn scope_of(scopes: &Scopes, clafer: u32) -> u64
-    ensures { result ≡ scope_of scopes.now clafer }
+/// How many instances can be the parent of an instance of a clafer.
+#[tactic(auto, using(crate::proofs::Owners::owned))]
+fn owner_room(rooms: &Rooms, clafer: u32) -> u64
+    requires within { clafer < length rooms.now.clafers.now }
+    ensures { result ≡ owner_room rooms.now.clafers.now rooms.now.scopes.now clafer }
 {
-    match scopes.of.as_slice().get(clafer as usize) {
-        Some(most) => *most as u64,
+    match rooms.clafers.get(clafer as usize).parent {
+        Some(parent) => rooms.of(parent),
         None => 0,
     }
 }
 
-/// The sum of the scopes of a list of clafers.
-fn scopes_of(scopes: &Scopes, clafers: &[u32]) -> u64
-    ensures { result ≡ spec.scopes_of [] scopes.now clafers.now }
-{
-    let mut total: u64 = 0;
-    for clafer in clafers {
-        total = plus(total, scope_of(scopes, *clafer));
-    }
-    total
-}
-
-fn is_child(clafers: &List<Clafer>, parent: u32, clafer: u32) -> bool
-    requires within { clafer < length clafers.now }
-    ensures { result ≡ is_child clafers.now parent clafer }
-{
-    match clafers.get(clafer as usize).parent {
-        Some(above) => above == parent,
-        None => false,
-    }
-}
-
-fn child_scope(clafers: &List<Clafer>, scopes: &Scopes, parent: u32, clafer: u32) -> u64
-    requires within { clafer < length clafers.now }
-    ensures { result ≡ (if is_child clafers.now parent clafer then scope_of scopes.now clafer else 0) }
-{
-    if is_child(clafers, parent, clafer) {
-        return scope_of(scopes, clafer);
-    }
-    0
-}
-
-/// The sum of the scopes of the clafers that are declared directly under one. It goes over the clafers.
-#[tactic(auto, using(crate::proofs::Totals::totals))]
-fn children(clafers: &List<Clafer>, scopes: &Scopes, parent: u32) -> u64
-    requires few { length clafers.now < 2 ^ 32 }
-    ensures { result ≡ spec.children clafers.now scopes.now parent }
-{
-    let mut total: u64 = 0;
-    for clafer in 0..clafers.len() {
-        total = plus(total, child_scope(clafers, scopes, parent, clafer as u32));
-    }
-    total
-}
-
-/// How many nodes can be an instance of a clafer. It goes over the clafers.
-pub fn instances(
-    alloc: Global,
-    clafers: &List<Clafer>,
-    scopes: &Scopes,
-    clafer: u32,
-) -> Result<u64, NoMemory>
-    requires closed { IsTrue (is_closed clafers.now) }
-    requires few { length clafers.now < 2 ^ 32 }
-    ensures { IfOk result (λ n. n ≡ room clafers.now scopes.now (clafer ∷ [])) }
-{
-    let mut only = List::new(alloc);
-    only.push(clafer)?;
-    Ok(room(clafers, scopes, &only))
-}
-
-fn target_room(
-    alloc: Global,
-    clafers: &List<Clafer>,
-    scopes: &Scopes,
-    to: Option<u32>,
-) -> Result<u64, NoMemory>
-    requires closed { IsTrue (is_closed clafers.now) }
-    requires few { length clafers.now < 2 ^ 32 }
-    ensures { IfOk result (λ n. n ≡ target_room clafers.now scopes.now to) }
+fn target_room(rooms: &Rooms, to: Option<u32>) -> u64
+    ensures { result ≡ target_room rooms.now.clafers.now rooms.now.scopes.now to }
 {
     match to {
-        Some(target) => instances(alloc, clafers, scopes, target),
-        None => Ok(range_width(scopes)),
+        Some(target) => rooms.of(target),
+        None => range_width(rooms.scopes),
     }
 }
 
-fn target_slots(
-    alloc: Global,
-    clafers: &List<Clafer>,
-    scopes: &Scopes,
-    clafer: u32,
-) -> Result<u64, NoMemory>
-    requires closed { IsTrue (is_closed clafers.now) }
-    requires few { length clafers.now < 2 ^ 32 }
-    ensures { IfOk result (λ n. n ≡ target_slots clafers.now scopes.now clafer) }
+fn target_slots(rooms: &Rooms, clafer: u32) -> u64
+    ensures { result ≡ target_slots rooms.now.clafers.now rooms.now.scopes.now clafer }
 {
-    match reference_of(clafers, clafer) {
-        Some(reference) => target_room(alloc, clafers, scopes, reference.to),
-        None => Ok(0),
+    match reference_of(rooms.clafers, clafer) {
+        Some(reference) => target_room(rooms, reference.to),
+        None => 0,
     }
 }
 
@@ -153,10 +78,10 @@ fn has_set(clafers: &List<Clafer>, clafer: u32) -> bool
 }
 
 /// Whether two instances with one parent are compared.
-fn has_pairs(clafers: &List<Clafer>, _scopes: &Scopes, clafer: u32, plan: &Clafer) -> bool
-    ensures { result ≡ has_pairs clafers.now _scopes.now clafer plan.now }
+fn has_pairs(rooms: &Rooms, clafer: u32, plan: &Clafer) -> bool
+    ensures { result ≡ has_pairs rooms.now.clafers.now rooms.now.scopes.now clafer plan.now }
 {
-    if !has_set(clafers, clafer) {
+    if !has_set(rooms.clafers, clafer) {
         return false;
     }
     plan.parent.is_none() || !is_single(plan.times)
@@ -185,28 +110,18 @@ fn concrete(instances: u64, owners: u64, targets: u64, has_pairs: bool, counted:
     plus(plus(each, 0), number)
 }
 
-fn concrete_weight(
-    alloc: Global,
-    clafers: &List<Clafer>,
-    scopes: &Scopes,
-    clafer: u32,
-    plan: &Clafer,
-) -> Result<u64, NoMemory>
-    requires within { clafer < length clafers.now }
-    requires closed { IsTrue (is_closed clafers.now) }
-    requires few { length clafers.now < 2 ^ 32 }
-    ensures { IfOk result (λ n. n ≡ spec.light_concrete clafers.now scopes.now clafer plan.now) }
+fn concrete_weight(rooms: &Rooms, clafer: u32, plan: &Clafer) -> u64
+    requires within { clafer < length rooms.now.clafers.now }
+    ensures { result ≡ spec.light_concrete rooms.now.clafers.now rooms.now.scopes.now clafer plan.now }
 {
-    let above = owners(alloc, clafers, clafer)?;
-    let targets = target_slots(alloc, clafers, scopes, clafer)?;
-    let most = scope_of(scopes, clafer);
-    Ok(concrete(
+    let most = rooms.scope_of(clafer);
+    concrete(
         most,
-        scopes_of(scopes, above.as_slice()),
-        targets,
-        has_pairs(clafers, scopes, clafer, plan),
+        owner_room(rooms, clafer),
+        target_slots(rooms, clafer),
+        has_pairs(rooms, clafer, plan),
         counted_to(plan.times, most),
-    ))
+    )
 }
 
 fn counting(nodes: u64, counted: u64) -> u64
@@ -221,93 +136,54 @@ fn counting_below(above: u64, nodes: u64, counted: u64) -> u64
     times(times(times(8, above), nodes), plus(counted, 1))
 }
 
-fn abstract_weight(
-    alloc: Global,
-    clafers: &List<Clafer>,
-    scopes: &Scopes,
-    clafer: u32,
-    plan: &Clafer,
-) -> Result<u64, NoMemory>
-    requires closed { IsTrue (is_closed clafers.now) }
-    requires few { length clafers.now < 2 ^ 32 }
-    ensures { IfOk result (λ n. n ≡ spec.light_abstract clafers.now scopes.now clafer plan.now) }
+fn abstract_weight(rooms: &Rooms, clafer: u32, plan: &Clafer) -> u64
+    ensures { result ≡ spec.light_abstract rooms.now.clafers.now rooms.now.scopes.now clafer plan.now }
 {
     if is_any(plan.times) {
-        return Ok(0);
+        return 0;
     }
-    let nodes = instances(alloc, clafers, scopes, clafer)?;
-    Ok(counting(nodes, counted_to(plan.times, nodes)))
+    let nodes = rooms.of(clafer);
+    counting(nodes, counted_to(plan.times, nodes))
 }
 
-fn group_weight(
-    alloc: Global,
-    clafers: &List<Clafer>,
-    scopes: &Scopes,
-    clafer: u32,
-    plan: &Clafer,
-) -> Result<u64, NoMemory>
-    requires closed { IsTrue (is_closed clafers.now) }
-    requires few { length clafers.now < 2 ^ 32 }
-    ensures { IfOk result (λ n. n ≡ spec.light_group clafers.now scopes.now clafer plan.now) }
+fn group_weight(rooms: &Rooms, clafer: u32, plan: &Clafer) -> u64
+    ensures { result ≡ spec.light_group rooms.now.clafers.now rooms.now.scopes.now clafer plan.now }
 {
     if is_any(plan.group) {
-        return Ok(0);
+        return 0;
     }
-    let above = instances(alloc, clafers, scopes, clafer)?;
-    let below = children(clafers, scopes, clafer);
-    Ok(counting_below(above, below, counted_to(plan.group, below)))
+    let below = rooms.below(clafer);
+    counting_below(rooms.of(clafer), below, counted_to(plan.group, below))
 }
 
-fn own_weight(
-    alloc: Global,
-    clafers: &List<Clafer>,
-    scopes: &Scopes,
-    clafer: u32,
-    plan: &Clafer,
-) -> Result<u64, NoMemory>
-    requires within { clafer < length clafers.now }
-    requires closed { IsTrue (is_closed clafers.now) }
-    requires few { length clafers.now < 2 ^ 32 }
-    ensures { IfOk result (λ n. n ≡ (if plan.now.is_abstract then spec.light_abstract clafers.now scopes.now clafer plan.now else spec.light_concrete clafers.now scopes.now clafer plan.now)) }
+fn own_weight(rooms: &Rooms, clafer: u32, plan: &Clafer) -> u64
+    requires within { clafer < length rooms.now.clafers.now }
+    ensures { result ≡ (if plan.now.is_abstract then spec.light_abstract rooms.now.clafers.now rooms.now.scopes.now clafer plan.now else spec.light_concrete rooms.now.clafers.now rooms.now.scopes.now clafer plan.now) }
 {
     if plan.is_abstract {
-        return abstract_weight(alloc, clafers, scopes, clafer, plan);
+        return abstract_weight(rooms, clafer, plan);
     }
-    concrete_weight(alloc, clafers, scopes, clafer, plan)
+    concrete_weight(rooms, clafer, plan)
 }
 
-/// What one clafer adds to the weight. It goes over the clafers.
-fn clafer_weight(
-    alloc: Global,
-    clafers: &List<Clafer>,
-    scopes: &Scopes,
-    clafer: u32,
-) -> Result<u64, NoMemory>
-    requires within { clafer < length clafers.now }
-    requires closed { IsTrue (is_closed clafers.now) }
-    requires few { length clafers.now < 2 ^ 32 }
-    ensures { IfOk result (λ n. n ≡ spec.light_at clafers.now scopes.now clafer) }
+/// What one clafer adds to the weight. It goes to the clafers above it.
+fn clafer_weight(rooms: &Rooms, clafer: u32) -> u64
+    requires within { clafer < length rooms.now.clafers.now }
+    ensures { result ≡ spec.light_at rooms.now.clafers.now rooms.now.scopes.now clafer }
 {
-    let plan = clafers.get(clafer as usize);
-    let own = own_weight(alloc, clafers, scopes, clafer, plan)?;
-    let group = group_weight(alloc, clafers, scopes, clafer, plan)?;
-    Ok(plus(own, group))
+    let plan = rooms.clafers.get(clafer as usize);
+    let own = own_weight(rooms, clafer, plan);
+    plus(own, group_weight(rooms, clafer, plan))
 }
 
-/// What the clafers add to the weight. Each costs a walk over the clafers.
-#[tactic(auto, using(crate::proofs::Totals::totals))]
-pub fn clafers_weight(
-    alloc: Global,
-    clafers: &List<Clafer>,
-    scopes: &Scopes,
-) -> Result<u64, NoMemory>
-    requires closed { IsTrue (is_closed clafers.now) }
-    requires few { length clafers.now < 2 ^ 32 }
-    ensures { IfOk result (λ n. n ≡ capped (sum (map (spec.light_at clafers.now scopes.now) (numbers_below (length clafers.now))))) }
+/// What the clafers add to the weight. Each goes to those above it.
+#[tactic(auto, using(crate::proofs::Totals::number_total))]
+pub fn clafers_weight(rooms: &Rooms) -> u64
+    ensures { result ≡ capped (sum (map (spec.light_at rooms.now.clafers.now rooms.now.scopes.now) (numbers_below (length rooms.now.clafers.now)))) }
 {
     let mut total: u64 = 0;
-    for clafer in 0..clafers.len() {
-        total = plus(total, clafer_weight(alloc, clafers, scopes, clafer as u32)?);
+    for clafer in 0..rooms.clafers.len() {
+        total = plus(total, clafer_weight(rooms, clafer as u32));
     }
-    Ok(total)
+    total
 }

@@ -1,7 +1,6 @@
 //! Comparisons of two finished parts by their values or by their nodes.
 
-ghost use Rattle.std.specs.Prelude.{◌≡◌, ◌&&◌, ◌<◌, ◌^◌, max, length, IfOk, IsTrue};
-ghost use Rattle.clf_tree.specs.Hierarchy.{is_closed};
+ghost use Rattle.std.specs.Prelude.{◌≡◌, ◌&&◌, max, IfOk};
 ghost use Rattle.clf_tree.specs.Kinds as kinds_of;
 ghost use Rattle.clf_tree.specs.Numerics as numerics;
 ghost use Rattle.clf_tree.specs.Widths.{width};
@@ -11,6 +10,7 @@ ghost use Rattle.model_weight.specs.Refusals.{first_of, where_integer};
 
 use crate::numbers::{both, moved, plus, range_width, times};
 use crate::parts::{Part, Parts, first_of, set_part, targets_in, where_integer};
+use crate::rooms::Rooms;
 use clf_base::{List, NoMemory, Span};
 use clf_tree::{Clafer, Kind, Reading, Scopes, reading_of};
 use int_widths::width;
@@ -79,18 +79,15 @@ fn by_nodes(
 
 fn nodes_weight(
     alloc: Global,
-    clafers: &List<Clafer>,
-    scopes: &Scopes,
+    rooms: &Rooms,
     left_dref: bool,
     right_dref: bool,
     parts: &Parts,
 ) -> Result<u64, NoMemory>
-    requires closed { IsTrue (is_closed clafers.now) }
-    requires few { length clafers.now < 2 ^ 32 }
-    ensures { IfOk result (λ n. n ≡ by_nodes left_dref right_dref parts.now.left.nodes (targets_in clafers.now scopes.now parts.now.left.kind) parts.now.right.nodes (targets_in clafers.now scopes.now parts.now.right.kind)) }
+    ensures { IfOk result (λ n. n ≡ by_nodes left_dref right_dref parts.now.left.nodes (targets_in rooms.now.clafers.now rooms.now.scopes.now parts.now.left.kind) parts.now.right.nodes (targets_in rooms.now.clafers.now rooms.now.scopes.now parts.now.right.kind)) }
 {
-    let left = targets_in(alloc, clafers, scopes, &parts.left.kind)?;
-    let right = targets_in(alloc, clafers, scopes, &parts.right.kind)?;
+    let left = targets_in(alloc, rooms, &parts.left.kind)?;
+    let right = targets_in(alloc, rooms, &parts.right.kind)?;
     Ok(by_nodes(
         left_dref,
         right_dref,
@@ -115,16 +112,13 @@ fn values_weight(scopes: &Scopes, parts: &Parts) -> u64
 
 fn compared(
     alloc: Global,
-    clafers: &List<Clafer>,
-    scopes: &Scopes,
+    rooms: &Rooms,
     reading: Option<Reading>,
     parts: &Parts,
 ) -> Result<u64, NoMemory>
-    requires closed { IsTrue (is_closed clafers.now) }
-    requires few { length clafers.now < 2 ^ 32 }
-    requires left { parts.now.left.nodes ≡ nodes_in clafers.now scopes.now parts.now.left.kind }
-    requires right { parts.now.right.nodes ≡ nodes_in clafers.now scopes.now parts.now.right.kind }
-    ensures { IfOk result (λ n. n ≡ compared clafers.now scopes.now reading parts.now.left.kind (width parts.now.left.bounds) parts.now.right.kind (width parts.now.right.bounds)) }
+    requires left { parts.now.left.nodes ≡ nodes_in rooms.now.clafers.now rooms.now.scopes.now parts.now.left.kind }
+    requires right { parts.now.right.nodes ≡ nodes_in rooms.now.clafers.now rooms.now.scopes.now parts.now.right.kind }
+    ensures { IfOk result (λ n. n ≡ compared rooms.now.clafers.now rooms.now.scopes.now reading parts.now.left.kind (width parts.now.left.bounds) parts.now.right.kind (width parts.now.right.bounds)) }
 {
     match reading {
         Some(
@@ -132,8 +126,8 @@ fn compared(
                 left_dref,
                 right_dref,
             },
-        ) => nodes_weight(alloc, clafers, scopes, left_dref, right_dref, parts),
-        _ => Ok(values_weight(scopes, parts)),
+        ) => nodes_weight(alloc, rooms, left_dref, right_dref, parts),
+        _ => Ok(values_weight(rooms.scopes, parts)),
     }
 }
 
@@ -172,30 +166,27 @@ fn compared_kind(
 /// Whether two parts are the same, or the left one is a part of the right one, as they are read.
 pub fn comparison_part(
     alloc: Global,
-    clafers: &List<Clafer>,
-    scopes: &Scopes,
+    rooms: &Rooms,
     at: Span,
     parts: &Parts,
 ) -> Result<Part, NoMemory>
-    requires closed { IsTrue (is_closed clafers.now) }
-    requires few { length clafers.now < 2 ^ 32 }
-    requires left { parts.now.left.nodes ≡ nodes_in clafers.now scopes.now parts.now.left.kind }
-    requires right { parts.now.right.nodes ≡ nodes_in clafers.now scopes.now parts.now.right.kind }
+    requires left { parts.now.left.nodes ≡ nodes_in rooms.now.clafers.now rooms.now.scopes.now parts.now.left.kind }
+    requires right { parts.now.right.nodes ≡ nodes_in rooms.now.clafers.now rooms.now.scopes.now parts.now.right.kind }
     ensures at { IfOk result (λ r. r.at ≡ at) }
-    ensures kind { IfOk result (λ r. r.kind ≡ kinds_of.compared_kind clafers.now parts.now.left.kind parts.now.right.kind) }
-    ensures nodes { IfOk result (λ r. r.nodes ≡ nodes_in clafers.now scopes.now r.kind) }
-    ensures bounds { IfOk result (λ r. r.bounds ≡ kind_interval clafers.now scopes.now r.kind) }
-    ensures weight { IfOk result (λ r. r.weight ≡ both (compared clafers.now scopes.now (kinds_of.reading_of clafers.now parts.now.left.kind parts.now.right.kind) parts.now.left.kind (width parts.now.left.bounds) parts.now.right.kind (width parts.now.right.bounds)) parts.now.left.weight parts.now.right.weight) }
-    ensures wide { IfOk result (λ r. r.wide ≡ first_of (where_integer (numerics.by_values (kinds_of.reading_of clafers.now parts.now.left.kind parts.now.right.kind)) parts.now.left.at parts.now.left.bounds parts.now.left.wide) (where_integer (numerics.by_values (kinds_of.reading_of clafers.now parts.now.left.kind parts.now.right.kind)) parts.now.right.at parts.now.right.bounds parts.now.right.wide)) }
+    ensures kind { IfOk result (λ r. r.kind ≡ kinds_of.compared_kind rooms.now.clafers.now parts.now.left.kind parts.now.right.kind) }
+    ensures nodes { IfOk result (λ r. r.nodes ≡ nodes_in rooms.now.clafers.now rooms.now.scopes.now r.kind) }
+    ensures bounds { IfOk result (λ r. r.bounds ≡ kind_interval rooms.now.clafers.now rooms.now.scopes.now r.kind) }
+    ensures weight { IfOk result (λ r. r.weight ≡ both (compared rooms.now.clafers.now rooms.now.scopes.now (kinds_of.reading_of rooms.now.clafers.now parts.now.left.kind parts.now.right.kind) parts.now.left.kind (width parts.now.left.bounds) parts.now.right.kind (width parts.now.right.bounds)) parts.now.left.weight parts.now.right.weight) }
+    ensures wide { IfOk result (λ r. r.wide ≡ first_of (where_integer (numerics.by_values (kinds_of.reading_of rooms.now.clafers.now parts.now.left.kind parts.now.right.kind)) parts.now.left.at parts.now.left.bounds parts.now.left.wide) (where_integer (numerics.by_values (kinds_of.reading_of rooms.now.clafers.now parts.now.left.kind parts.now.right.kind)) parts.now.right.at parts.now.right.bounds parts.now.right.wide)) }
 {
-    let reading = reading_of(alloc, clafers, &parts.left.kind, &parts.right.kind)?;
-    let own = compared(alloc, clafers, scopes, reading, parts)?;
+    let reading = reading_of(alloc, rooms.clafers, &parts.left.kind, &parts.right.kind)?;
+    let own = compared(alloc, rooms, reading, parts)?;
     let weight = both(own, parts.left.weight, parts.right.weight);
     let are_integers = is_by_values(reading);
     let wide = first_of(
         where_integer(are_integers, &parts.left),
         where_integer(are_integers, &parts.right),
     );
-    let kind = compared_kind(clafers, &parts.left.kind, &parts.right.kind, reading);
-    Ok(set_part(clafers, scopes, at, kind, weight, wide))
+    let kind = compared_kind(rooms.clafers, &parts.left.kind, &parts.right.kind, reading);
+    Ok(set_part(rooms, at, kind, weight, wide))
 }

@@ -12,6 +12,7 @@ mod integers;
 mod model;
 mod numbers;
 mod parts;
+mod rooms;
 #[cfg(test)]
 mod tests;
 mod weighing;

@@ -1,7 +1,6 @@
 //! What is known of a part of an expression.
 
-ghost use Rattle.std.specs.Prelude.{◌≡◌, ◌<◌, ◌^◌, Some, [], length, IfOk, IsTrue};
-ghost use Rattle.clf_tree.specs.Hierarchy.{is_closed};
+ghost use Rattle.std.specs.Prelude.{◌≡◌, Some, [], IfOk};
 ghost use Rattle.clf_tree.specs.Kinds.{clafers_of, bind_kinds};
 ghost use Rattle.clf_tree.specs.declared.kind.Kind.TheVariants as kinds;
 ghost use Rattle.model_weight.specs.Light.{tested, counted};
@@ -9,9 +8,10 @@ ghost use Rattle.model_weight.specs.Measures.{nodes_in, targets_in, kind_interva
 ghost use Rattle.model_weight.specs.Refusals.{first_of, own_refusal, with_own, where_integer};
 
 use crate::numbers::{count, plus};
+use crate::rooms::Rooms;
 use clf_base::{List, NoMemory, Refusal, Span};
-use clf_tree::{Bounds, Clafer, Kind, Scopes, Within, targets_of};
-use int_widths::{room, sum_between, width};
+use clf_tree::{Bounds, Kind, Scopes, Within, targets_of};
+use int_widths::{sum_between, width};
 use refusal_order::{refused, with_refusal};
 use std::alloc::Global;
 
@@ -34,35 +34,26 @@ pub struct Parts {
     pub right: Part,
 }
 
-/// How many nodes a kind can have. It goes over the clafers.
+/// How many nodes a kind can have. It goes over the clafers where the kind has several.
 #[tactic(auto, using(crate::proofs::NoRoom::nodes_by_kind))]
-pub fn nodes_in(clafers: &List<Clafer>, scopes: &Scopes, kind: &Option<Kind>) -> u64
-    requires closed { IsTrue (is_closed clafers.now) }
-    requires few { length clafers.now < 2 ^ 32 }
-    ensures { result ≡ nodes_in clafers.now scopes.now kind.now }
+pub fn nodes_in(rooms: &Rooms, kind: &Option<Kind>) -> u64
+    ensures { result ≡ nodes_in rooms.now.clafers.now rooms.now.scopes.now kind.now }
 {
     match kind {
-        Some(Kind::Nodes(ks)) => room(clafers, scopes, ks),
-        Some(Kind::Numbers(ks)) => room(clafers, scopes, ks),
+        Some(Kind::Nodes(ks)) => rooms.of_all(ks),
+        Some(Kind::Numbers(ks)) => rooms.of_all(ks),
         _ => 0,
     }
 }
 
 /// How many nodes there can be in its `dref`.
 #[tactic(auto, using(crate::proofs::NoRoom::targets_by_kind))]
-pub fn targets_in(
-    alloc: Global,
-    clafers: &List<Clafer>,
-    scopes: &Scopes,
-    kind: &Option<Kind>,
-) -> Result<u64, NoMemory>
-    requires closed { IsTrue (is_closed clafers.now) }
-    requires few { length clafers.now < 2 ^ 32 }
-    ensures { IfOk result (λ n. n ≡ targets_in clafers.now scopes.now kind.now) }
+pub fn targets_in(alloc: Global, rooms: &Rooms, kind: &Option<Kind>) -> Result<u64, NoMemory>
+    ensures { IfOk result (λ n. n ≡ targets_in rooms.now.clafers.now rooms.now.scopes.now kind.now) }
 {
     match kind {
-        Some(Kind::Nodes(ks)) => match targets_of(alloc, clafers, ks)? {
-            Some(targets) => Ok(room(clafers, scopes, &targets)),
+        Some(Kind::Nodes(ks)) => match targets_of(alloc, rooms.clafers, ks)? {
+            Some(targets) => Ok(rooms.of_all(&targets)),
             None => Ok(0),
         },
         _ => Ok(0),
@@ -71,24 +62,21 @@ pub fn targets_in(
 
 /// What is no integer, and has so many nodes.
 pub fn set_part(
-    clafers: &List<Clafer>,
-    scopes: &Scopes,
+    rooms: &Rooms,
     at: Span,
     kind: Option<Kind>,
     weight: u64,
     wide: Option<Refusal>,
 ) -> Part
-    requires closed { IsTrue (is_closed clafers.now) }
-    requires few { length clafers.now < 2 ^ 32 }
     ensures at { result.at ≡ at }
     ensures kind { result.kind ≡ kind }
-    ensures nodes { result.nodes ≡ nodes_in clafers.now scopes.now kind }
-    ensures bounds { result.bounds ≡ kind_interval clafers.now scopes.now kind }
+    ensures nodes { result.nodes ≡ nodes_in rooms.now.clafers.now rooms.now.scopes.now kind }
+    ensures bounds { result.bounds ≡ kind_interval rooms.now.clafers.now rooms.now.scopes.now kind }
     ensures weight { result.weight ≡ weight }
     ensures wide { result.wide ≡ wide }
 {
-    let nodes = nodes_in(clafers, scopes, &kind);
-    let bounds = sum_between(scopes, nodes);
+    let nodes = nodes_in(rooms, &kind);
+    let bounds = sum_between(rooms.scopes, nodes);
     Part {
         at,
         kind,
@@ -100,45 +88,34 @@ pub fn set_part(
 }
 
 /// A truth value.
-pub fn truth_part(
-    clafers: &List<Clafer>,
-    scopes: &Scopes,
-    at: Span,
-    weight: u64,
-    wide: Option<Refusal>,
-) -> Part
-    requires closed { IsTrue (is_closed clafers.now) }
-    requires few { length clafers.now < 2 ^ 32 }
+pub fn truth_part(rooms: &Rooms, at: Span, weight: u64, wide: Option<Refusal>) -> Part
     ensures at { result.at ≡ at }
     ensures kind { result.kind ≡ Some kinds.Truth }
-    ensures nodes { result.nodes ≡ nodes_in clafers.now scopes.now result.kind }
-    ensures bounds { result.bounds ≡ kind_interval clafers.now scopes.now result.kind }
+    ensures nodes { result.nodes ≡ nodes_in rooms.now.clafers.now rooms.now.scopes.now result.kind }
+    ensures bounds { result.bounds ≡ kind_interval rooms.now.clafers.now rooms.now.scopes.now result.kind }
     ensures weight { result.weight ≡ weight }
     ensures wide { result.wide ≡ wide }
 {
-    set_part(clafers, scopes, at, Some(Kind::Truth), weight, wide)
+    set_part(rooms, at, Some(Kind::Truth), weight, wide)
 }
 
 /// An integer.
 pub fn number_part(
-    clafers: &List<Clafer>,
-    scopes: &Scopes,
+    rooms: &Rooms,
     at: Span,
     bounds: Bounds,
     weight: u64,
     wide: Option<Refusal>,
 ) -> Part
-    requires closed { IsTrue (is_closed clafers.now) }
-    requires few { length clafers.now < 2 ^ 32 }
     ensures at { result.at ≡ at }
     ensures kind { result.kind ≡ Some kinds.Integer }
-    ensures nodes { result.nodes ≡ nodes_in clafers.now scopes.now result.kind }
+    ensures nodes { result.nodes ≡ nodes_in rooms.now.clafers.now rooms.now.scopes.now result.kind }
     ensures bounds { result.bounds ≡ bounds }
     ensures weight { result.weight ≡ weight }
     ensures wide { result.wide ≡ wide }
 {
     let kind = Some(Kind::Integer);
-    let nodes = nodes_in(clafers, scopes, &kind);
+    let nodes = nodes_in(rooms, &kind);
     Part {
         at,
         kind,

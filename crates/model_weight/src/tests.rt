@@ -1,6 +1,7 @@
-ghost use Rattle.std.specs.Prelude.{◌≡◌, ◌<◌, ◌^◌, length, IfOk, IsTrue};
+ghost use Rattle.std.specs.Prelude.{◌≡◌, ◌<◌, ◌^◌, not, length, IfOk, IsTrue};
 ghost use Rattle.std.specs.Option.{option_and_then};
 ghost use Rattle.clf_tree.specs.Hierarchy.{is_below, names_below, is_closed};
+ghost use Rattle.clf_tree.specs.Named.{each, inherits_itself};
 
 use crate::model::model_known;
 use crate::weigh;
@@ -190,6 +191,18 @@ fn is_closed(clafers: &List<Clafer>) -> bool
         .all(|clafer| names_below(clafers.len(), clafer))
 }
 
+/// Whether it is one clafer without a super.
+#[tactic(auto, using(crate::proofs::Alone::inherits_nothing))]
+fn is_alone(clafers: &List<Clafer>) -> bool
+    ensures few { IsTrue result → length clafers.now < 2 ^ 32 }
+    ensures acyclic { IsTrue result → IsTrue (each clafers.now (λ c. not (inherits_itself clafers.now c))) }
+{
+    if clafers.len() != 1 {
+        return false;
+    }
+    clafers.get(0).above.is_none()
+}
+
 #[test]
 fn nothing_weighs_eight(rt: HostRuntime) -> Result<(), Fail> {
     let alloc = rt.alloc();
@@ -206,7 +219,7 @@ fn nothing_weighs_eight(rt: HostRuntime) -> Result<(), Fail> {
 fn one_clafer_weighs_89(rt: HostRuntime) -> Result<(), Fail> {
     let alloc = rt.alloc();
     let model = alone(alloc, top(alloc, 1, None))?;
-    assert!(rt; model.clafers.len() == 1 && is_closed(&model.clafers));
+    assert!(rt; is_alone(&model.clafers) && is_closed(&model.clafers));
     let known = model_known(alloc, &model, &scopes(alloc, &[1])?)?;
     assert_eq!(rt; known.weight, 89);
     Ok(())
@@ -216,7 +229,7 @@ fn one_clafer_weighs_89(rt: HostRuntime) -> Result<(), Fail> {
 fn three_variables_over_many_nodes_are_heavy(rt: HostRuntime) -> Result<(), Fail> {
     let alloc = rt.alloc();
     let model = with_rule(alloc, top(alloc, 256, None), all_equal(alloc)?)?;
-    assert!(rt; model.clafers.len() == 1 && is_closed(&model.clafers));
+    assert!(rt; is_alone(&model.clafers) && is_closed(&model.clafers));
     let known = model_known(alloc, &model, &scopes(alloc, &[256])?)?;
     assert_eq!(rt; known.weight, 153_713_396_002);
     assert_eq!(rt; known.wide, None);
@@ -233,7 +246,7 @@ fn a_fourth_power_doubled_is_too_wide(rt: HostRuntime) -> Result<(), Fail> {
     };
     let body = is_zero(alloc, doubled(alloc, fourth_power(alloc)?, 17)?, 21)?;
     let model = with_rule(alloc, top(alloc, 1, Some(reference)), body)?;
-    assert!(rt; model.clafers.len() == 1 && is_closed(&model.clafers));
+    assert!(rt; is_alone(&model.clafers) && is_closed(&model.clafers));
     let mut range = scopes(alloc, &[1])?;
     range.low = -32768;
     range.high = 32767;

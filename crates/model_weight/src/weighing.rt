@@ -72,7 +72,9 @@ fn judged(alloc: Global, model: &Typed, scopes: &Scopes) -> Result<Judgement, No
 /// integers that needs more than 62 bits (90, with the number of bits), the outer one of two at one place. Else it is refused
 /// where its weight is above 8,000,000 (91, at no place, with the weight, which is counted no further than to 10^18).
 ///
-/// Each part of the model is visited once, and costs a walk over the clafers.
+/// Tables of the clafers are made first, for which each clafer goes to those above it; then each part of the model is visited once.
+/// A part of an expression costs a walk over the clafers only where it asks for parents, for what two kinds share, or for the nodes
+/// of several clafers.
 #[tactic(auto, using(crate::proofs::Verdicts::light_where, crate::proofs::Verdicts::narrow_where))]
 pub fn weigh(alloc: Global, model: &Typed, scopes: &Scopes) -> Result<u64, Fault>
     requires few { length model.now.clafers < 2 ^ 32 }

@@ -7,5 +7,5 @@ use Rattle.model_weight.proofs.expressions.+walk.Goals as goal
 pub walk-returns-clause-bounds : goal.walk-returns-clause-bounds
 walk-returns-clause-bounds t c =
     c.in_ok-part.ensures.bounds
-    ∙ ap (λ k. interval_by c.args.clafers.now c.args.scopes.now (tree c.args.expr.now) c.args.within.now k) c.in_ok-part.ensures.kind
-    ∙ by_kind c.args.clafers.now c.args.scopes.now (tree c.args.expr.now) c.args.within.now
+    ∙ ap (λ k. interval_by c.args.rooms.now.clafers.now c.args.rooms.now.scopes.now (tree c.args.expr.now) c.args.within.now k) c.in_ok-part.ensures.kind
+    ∙ by_kind c.args.rooms.now.clafers.now c.args.rooms.now.scopes.now (tree c.args.expr.now) c.args.within.now
