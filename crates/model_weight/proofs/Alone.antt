@@ -1,11 +1,11 @@
 -- One clafer without a super doesn't inherit itself.
-use Rattle.std.proofs.Common.{◌≡◌, ℕ, Bool, true, false, not, ◌&&◌, List, length, Option, Some, None, refl, ap, ◌∙◌}
+use Rattle.std.proofs.Common.{◌≡◌, ℕ, true, false, not, ◌&&◌, List, length, Option, Some, None, refl, ap, ◌∙◌}
 use Rattle.std.specs.Prelude.{slice_get, is_none}
 use Rattle.std.specs.Option.{option_map_or}
 use Rattle.std.specs.List.{list_all}
 use Rattle.clf_tree.specs.declared.model.Clafer.{Clafer}
 use Rattle.clf_tree.specs.Lists.{numbers_below}
-use Rattle.clf_tree.specs.Hierarchy.{super_of, is_a}
+use Rattle.clf_tree.specs.Hierarchy.{is_a}
 use Rattle.clf_tree.specs.Named.{each, inherits_itself}
 use Rattle.clf_tree.proofs.WaysUp.{super_of-at}
 

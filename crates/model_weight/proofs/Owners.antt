@@ -1,11 +1,11 @@
 -- The instances that can be the parent of one are those that are-a the declaring clafer.
-use Rattle.std.proofs.Common.{◌≡◌, ℕ, Bool, true, false, ◌&&◌, ◌||◌, cond, List, [], ◌∷◌, length, map, sum, Option, Some, None, refl, ap, sym, ◌∙◌}
+use Rattle.std.proofs.Common.{◌≡◌, ℕ, Bool, true, false, ◌&&◌, ◌||◌, cond, List, [], ◌∷◌, length, map, sum, Some, None, refl, ap, sym, ◌∙◌}
 use Rattle.std.specs.Option.{option_map_or}
 use Rattle.std.specs.List.{filter}
 use Rattle.clf_tree.specs.declared.model.Clafer.{Clafer}
 use Rattle.clf_tree.specs.declared.scopes.Scopes.{Scopes}
 use Rattle.clf_tree.specs.Lists.{numbers_below}
-use Rattle.clf_tree.specs.Hierarchy.{is_concrete, is_a, parent_of, concrete_below}
+use Rattle.clf_tree.specs.Hierarchy.{is_concrete, is_a, concrete_below}
 use Rattle.clf_tree.specs.Nodes.{scope_of}
 use Rattle.clf_tree.specs.Intervals.{room}
 use Rattle.clf_tree.proofs.WaysUp.{parent_of-at}

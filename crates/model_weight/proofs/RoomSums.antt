@@ -1,5 +1,5 @@
 -- Sums of scopes, clafer by clafer.
-use Rattle.std.proofs.Common.{◌≡◌, ℕ, zero, suc, ◌+◌, ◌-◌, ◌*◌, ◌^◌, ◌<◌, ◌≤◌, Bool, true, false, not, cond, ◌&&◌, ◌||◌, List, [], ◌∷◌, ◌++◌, take, drop, length, map, sum, min, get_or, nat_eq, Option, Some, None, refl, ap, sym, subst, ◌∙◌, arith, if◌then◌else◌}
+use Rattle.std.proofs.Common.{◌≡◌, ℕ, ◌+◌, ◌*◌, ◌^◌, ◌<◌, ◌≤◌, Bool, true, false, not, cond, ◌&&◌, ◌||◌, List, [], ◌∷◌, ◌++◌, take, drop, length, map, sum, get_or, nat_eq, Some, None, refl, ap, sym, subst, ◌∙◌, arith, if◌then◌else◌}
 use Rattle.std.specs.Prelude.{◌==◌, slice_get}
 use Rattle.std.specs.Option.{option_map_or}
 use Rattle.std.specs.List.{filter}
@@ -9,7 +9,7 @@ use Rattle.std.proofs.Math.Nat.{min-eq_left}
 use Rattle.clf_tree.specs.declared.model.Clafer.{Clafer}
 use Rattle.clf_tree.specs.declared.scopes.Scopes.{Scopes}
 use Rattle.clf_tree.specs.Lists.{numbers_below, has}
-use Rattle.clf_tree.specs.Hierarchy.{is_concrete, is_one_of, is_a, is_closed, with_supers}
+use Rattle.clf_tree.specs.Hierarchy.{is_concrete, is_a, is_closed, with_supers}
 use Rattle.clf_tree.specs.Named.{each, inherits_itself}
 use Rattle.clf_tree.specs.Nodes.{scope_of}
 use Rattle.clf_tree.specs.Kinds.{is_child}
