@@ -5,14 +5,17 @@ ghost use Rattle.std.specs.List.{filter_map, list_all};
 ghost use Rattle.clf_tree.specs.Hierarchy.{is_below, is_closed};
 ghost use Rattle.clf_tree.specs.Named.{each, follows_parent};
 ghost use Rattle.refusal_order.specs.Order.{with_refusals, first_refusal};
+ghost use Rattle.name_tables.specs.Tables.{IsTableOf};
 ghost use Rattle.expression_names.specs.Models as spec;
 ghost use Rattle.expression_names.specs.Models.{rule_tree, goal_tree, looked_rule, looked_goal, rule_refusal, goal_refusal, name_refusals, Explains};
 
 use crate::expression::looked_up;
 use crate::looked::sooner;
+use crate::names::Known;
 use crate::scope::Scope;
 use clf_base::{Fault, List, NoMemory, Refusal};
 use clf_tree::{Goal, Model, Rule, Within};
+use name_tables::NameTable;
 use std::alloc::Global;
 
 /// The rules and goals of a model with their names looked up.
@@ -58,16 +61,23 @@ fn from(alloc: Global, context: Option<u32>) -> Scope
     }
 }
 
-fn look_up_rule(alloc: Global, model: &Model, rule: &Rule) -> Result<LookedRule, NoMemory>
+fn look_up_rule(
+    alloc: Global,
+    model: &Model,
+    table: &NameTable,
+    rule: &Rule,
+) -> Result<LookedRule, NoMemory>
     requires context_in { IsTrue (is_below (length model.now.clafers) rule.now.context) }
     requires closed { IsTrue (is_closed model.now.clafers) }
     requires parents_first { IsTrue (each model.now.clafers (follows_parent model.now.clafers)) }
     requires few { length model.now.clafers < 2 ^ 32 }
+    requires table { IsTableOf model.now.clafers table.now }
     ensures rule { IfOk result (λ l. rule_tree l.rule ≡ looked_rule model.now.clafers rule.now) }
     ensures refused { IfOk result (λ l. l.refused ≡ rule_refusal model.now.clafers rule.now) }
 {
     let scope = from(alloc, rule.context);
-    let looked = looked_up(alloc, model, &scope, &rule.body)?;
+    let known = Known { model, table };
+    let looked = looked_up(alloc, &known, &scope, &rule.body)?;
     Ok(LookedRule {
         rule: Rule {
             context: rule.context,
@@ -78,18 +88,24 @@ fn look_up_rule(alloc: Global, model: &Model, rule: &Rule) -> Result<LookedRule,
 }
 
 #[tactic(auto, using(crate::proofs::Going::going_steps))]
-fn look_up_rules(alloc: Global, model: &Model, rules: &[Rule]) -> Result<LookedRules, NoMemory>
+fn look_up_rules(
+    alloc: Global,
+    model: &Model,
+    table: &NameTable,
+    rules: &[Rule],
+) -> Result<LookedRules, NoMemory>
     requires contexts_in { IsTrue (list_all (λ r. is_below (length model.now.clafers) r.context) rules.now) }
     requires closed { IsTrue (is_closed model.now.clafers) }
     requires parents_first { IsTrue (each model.now.clafers (follows_parent model.now.clafers)) }
     requires few { length model.now.clafers < 2 ^ 32 }
+    requires table { IsTableOf model.now.clafers table.now }
     ensures rules { IfOk result (λ l. map rule_tree l.rules ≡ map (looked_rule model.now.clafers) rules.now) }
     ensures refused { IfOk result (λ l. l.refused ≡ first_refusal (filter_map (rule_refusal model.now.clafers) rules.now)) }
 {
     let mut all = List::new(alloc);
     let mut refused = None;
     for rule in rules {
-        let looked = look_up_rule(alloc, model, rule)?;
+        let looked = look_up_rule(alloc, model, table, rule)?;
         refused = sooner(refused, looked.refused);
         all.push(looked.rule)?;
     }
@@ -99,15 +115,22 @@ fn look_up_rules(alloc: Global, model: &Model, rules: &[Rule]) -> Result<LookedR
     })
 }
 
-fn look_up_goal(alloc: Global, model: &Model, goal: &Goal) -> Result<LookedGoal, NoMemory>
+fn look_up_goal(
+    alloc: Global,
+    model: &Model,
+    table: &NameTable,
+    goal: &Goal,
+) -> Result<LookedGoal, NoMemory>
     requires closed { IsTrue (is_closed model.now.clafers) }
     requires parents_first { IsTrue (each model.now.clafers (follows_parent model.now.clafers)) }
     requires few { length model.now.clafers < 2 ^ 32 }
+    requires table { IsTableOf model.now.clafers table.now }
     ensures goal { IfOk result (λ l. goal_tree l.goal ≡ looked_goal model.now.clafers goal.now) }
     ensures refused { IfOk result (λ l. l.refused ≡ goal_refusal model.now.clafers goal.now) }
 {
     let scope = from(alloc, None);
-    let looked = looked_up(alloc, model, &scope, &goal.body)?;
+    let known = Known { model, table };
+    let looked = looked_up(alloc, &known, &scope, &goal.body)?;
     Ok(LookedGoal {
         goal: Goal {
             at: goal.at,
@@ -122,19 +145,21 @@ fn look_up_goal(alloc: Global, model: &Model, goal: &Goal) -> Result<LookedGoal,
 fn look_up_goals(
     alloc: Global,
     model: &Model,
+    table: &NameTable,
     found: Option<Refusal>,
     goals: &[Goal],
 ) -> Result<LookedGoals, NoMemory>
     requires closed { IsTrue (is_closed model.now.clafers) }
     requires parents_first { IsTrue (each model.now.clafers (follows_parent model.now.clafers)) }
     requires few { length model.now.clafers < 2 ^ 32 }
+    requires table { IsTableOf model.now.clafers table.now }
     ensures goals { IfOk result (λ l. map goal_tree l.goals ≡ map (looked_goal model.now.clafers) goals.now) }
     ensures refused { IfOk result (λ l. l.refused ≡ with_refusals found (filter_map (goal_refusal model.now.clafers) goals.now)) }
 {
     let mut all = List::new(alloc);
     let mut refused = found;
     for goal in goals {
-        let looked = look_up_goal(alloc, model, goal)?;
+        let looked = look_up_goal(alloc, model, table, goal)?;
         refused = sooner(refused, looked.refused);
         all.push(looked.goal)?;
     }
@@ -147,7 +172,8 @@ fn look_up_goals(
 /// The rules and goals with their names looked up among the clafers of a model, whose own rules and goals are not read.
 ///
 /// They are refused by the earliest place at which a name is not found, with 62, or is ambiguous, with 63, or at which there is no
-/// `this` or no parent, with 66. Each part of the expressions is visited once; a name costs what [`name_resolver::meaning`] costs.
+/// `this` or no parent, with 66. Each part of the expressions is visited once; the table of names is made
+/// once, and then a name costs what [`name_tables::meaning`] costs.
 #[tactic(auto, using(crate::proofs::Going::going_steps), unfolding(crate::specs::Models::name_refusals))]
 pub fn look_up_names(
     alloc: Global,
@@ -164,8 +190,9 @@ pub fn look_up_names(
     ensures goals { IfOk result (λ names. map goal_tree names.goals ≡ map (looked_goal model.now.clafers) goals.now) }
     ensures cause { IfErr result (λ fault. Explains model.now.clafers rules.now goals.now fault) }
 {
-    let looked = look_up_rules(alloc, model, rules.as_slice())?;
-    let more = look_up_goals(alloc, model, looked.refused, goals.as_slice())?;
+    let table = NameTable::build(alloc, &model.clafers)?;
+    let looked = look_up_rules(alloc, model, &table, rules.as_slice())?;
+    let more = look_up_goals(alloc, model, &table, looked.refused, goals.as_slice())?;
     match more.refused {
         Some(refusal) => Err(Fault::Refused(refusal)),
         None => Ok(Names {

@@ -10,6 +10,7 @@ ghost use Rattle.clf_tree.specs.Kinds.{kind};
 ghost use Rattle.clf_tree.specs.Tree as e;
 ghost use Rattle.clf_tree.specs.Tree.{tree};
 ghost use Rattle.name_resolver.specs.Steps as steps;
+ghost use Rattle.name_tables.specs.Tables.{IsTableOf};
 ghost use Rattle.expression_names.specs.LookedUp as spec;
 
 use crate::looked::{Looked, or_own};
@@ -19,16 +20,25 @@ use clf_tree::{
     Clafer, Expr, Form, Kind, Model, Within, clafers_of, dref_kind, kind_of, parent_kind,
     parents_of, this_kind,
 };
-use name_resolver::{Found, Meant, children_named, meaning, steps_of};
+use name_resolver::{Found, Meant, children_named, steps_of};
+use name_tables::{NameTable, meaning};
 use refusal_order::refused;
 use sqlite_items::Boxed;
 use std::alloc::Global;
+
+/// What names are looked up in: a model, and the table of its names.
+#[derive(Clone, Copy)]
+pub struct Known<'a> {
+    pub model: &'a Model,
+    pub table: &'a NameTable<'a>,
+}
 
 // The innermost variable of the name, or what it means from the clafer of `this`.
 #[tactic(auto, unfolding(crate::specs::LookedUp::name_meaning))]
 fn name_meaning(
     alloc: Global,
     clafers: &List<Clafer>,
+    table: &NameTable,
     scope: &Scope,
     name: &List<u8>,
 ) -> Result<Found, NoMemory>
@@ -36,12 +46,13 @@ fn name_meaning(
     requires closed { IsTrue (is_closed clafers.now) }
     requires parents_first { IsTrue (each clafers.now (follows_parent clafers.now)) }
     requires few { length clafers.now < 2 ^ 32 }
+    requires table { IsTableOf clafers.now table.now }
     ensures { IfOk result (λ found. found ≡ spec.name_meaning clafers.now name.now scope.now) }
 {
     match variable(scope.names.as_slice(), name) {
         Some(inside) => Ok(Found::Means(Meant::Variable(inside))),
         None => {
-            let found = meaning(alloc, clafers, scope.within.this, name)?;
+            let found = meaning(alloc, clafers, table, scope.within.this, name)?;
             Ok(found)
         }
     }
@@ -118,21 +129,22 @@ fn found_name(
 /// A name as steps, or as it stands.
 pub fn name(
     alloc: Global,
-    model: &Model,
+    known: &Known,
     scope: &Scope,
     at: Span,
     name: &List<u8>,
 ) -> Result<Looked, NoMemory>
-    requires this_in { IsTrue (is_below (length model.now.clafers) scope.now.within.this) }
-    requires closed { IsTrue (is_closed model.now.clafers) }
-    requires parents_first { IsTrue (each model.now.clafers (follows_parent model.now.clafers)) }
-    requires few { length model.now.clafers < 2 ^ 32 }
-    ensures expr { IfOk result (λ l. tree l.expr ≡ spec.named_tree at name.now (spec.name_meaning model.now.clafers name.now scope.now)) }
-    ensures kind { IfOk result (λ l. l.kind ≡ kind model.now.clafers (spec.named_tree at name.now (spec.name_meaning model.now.clafers name.now scope.now)) scope.now.within) }
-    ensures refused { IfOk result (λ l. l.refused ≡ spec.name_refusal at (spec.name_meaning model.now.clafers name.now scope.now)) }
+    requires this_in { IsTrue (is_below (length known.now.model.now.clafers) scope.now.within.this) }
+    requires closed { IsTrue (is_closed known.now.model.now.clafers) }
+    requires parents_first { IsTrue (each known.now.model.now.clafers (follows_parent known.now.model.now.clafers)) }
+    requires few { length known.now.model.now.clafers < 2 ^ 32 }
+    requires table { IsTableOf known.now.model.now.clafers known.now.table.now }
+    ensures expr { IfOk result (λ l. tree l.expr ≡ spec.named_tree at name.now (spec.name_meaning known.now.model.now.clafers name.now scope.now)) }
+    ensures kind { IfOk result (λ l. l.kind ≡ kind known.now.model.now.clafers (spec.named_tree at name.now (spec.name_meaning known.now.model.now.clafers name.now scope.now)) scope.now.within) }
+    ensures refused { IfOk result (λ l. l.refused ≡ spec.name_refusal at (spec.name_meaning known.now.model.now.clafers name.now scope.now)) }
 {
-    let found = name_meaning(alloc, &model.clafers, scope, name)?;
-    let looked = found_name(alloc, model, &scope.within, at, name, &found)?;
+    let found = name_meaning(alloc, &known.model.clafers, known.table, scope, name)?;
+    let looked = found_name(alloc, known.model, &scope.within, at, name, &found)?;
     Ok(looked)
 }
 

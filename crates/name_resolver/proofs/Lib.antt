@@ -2,7 +2,6 @@ pub mod Among
 pub mod Beyond
 pub mod Depths
 pub mod FirstWays
-pub mod Heights
 pub mod Marking
 pub mod Meanings
 pub mod MeansOnce

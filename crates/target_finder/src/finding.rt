@@ -6,6 +6,7 @@ ghost use Rattle.std.specs.Option.{option_map};
 ghost use Rattle.clf_tree.specs.Hierarchy.{is_below, is_closed};
 ghost use Rattle.clf_tree.specs.Named.{each, follows_parent};
 ghost use Rattle.refusal_order.specs.Order.{first_refusal};
+ghost use Rattle.name_tables.specs.Tables.{IsTableOf};
 ghost use Rattle.target_finder.specs.Targets as spec;
 ghost use Rattle.target_finder.specs.Targets.{target_refusals, targeted, Explains};
 
@@ -13,6 +14,7 @@ use crate::one_target::find_target;
 use clf_base::{Fault, List, NoMemory, Refusal};
 use clf_tree::{Clafer, PlainClafer, Reference};
 use name_resolver::{means_one, means_there};
+use name_tables::NameTable;
 use refusal_order::with_refusal;
 use std::alloc::Global;
 
@@ -36,6 +38,34 @@ fn sooner(first: Option<Refusal>, second: Option<Refusal>) -> Option<Refusal>
 fn all_targets(
     alloc: Global,
     clafers: &List<Clafer>,
+    table: &NameTable,
+    plain: &[PlainClafer],
+) -> Result<Targets, NoMemory>
+    requires parents_in { IsTrue (list_all (λ k. is_below (length clafers.now) k.parent) plain.now) }
+    requires closed { IsTrue (is_closed clafers.now) }
+    requires parents_first { IsTrue (each clafers.now (follows_parent clafers.now)) }
+    requires few { length clafers.now < 2 ^ 32 }
+    requires table { IsTableOf clafers.now table.now }
+    ensures clafers { IfOk result (λ t. t.clafers ≡ map (spec.target_of clafers.now) plain.now) }
+    ensures refused { IfOk result (λ t. t.refused ≡ first_refusal (target_refusals clafers.now plain.now)) }
+{
+    let mut found = List::new(alloc);
+    let mut refused = None;
+    for clafer in plain {
+        let one = find_target(alloc, clafers, table, clafer.parent, &clafer.reference)?;
+        found.push(one.clafer)?;
+        refused = sooner(refused, one.refused);
+    }
+    Ok(Targets {
+        clafers: found,
+        refused,
+    })
+}
+
+// The targets by a table of the names that is made for them.
+fn targets_of(
+    alloc: Global,
+    clafers: &List<Clafer>,
     plain: &[PlainClafer],
 ) -> Result<Targets, NoMemory>
     requires parents_in { IsTrue (list_all (λ k. is_below (length clafers.now) k.parent) plain.now) }
@@ -45,17 +75,9 @@ fn all_targets(
     ensures clafers { IfOk result (λ t. t.clafers ≡ map (spec.target_of clafers.now) plain.now) }
     ensures refused { IfOk result (λ t. t.refused ≡ first_refusal (target_refusals clafers.now plain.now)) }
 {
-    let mut found = List::new(alloc);
-    let mut refused = None;
-    for clafer in plain {
-        let one = find_target(alloc, clafers, clafer.parent, &clafer.reference)?;
-        found.push(one.clafer)?;
-        refused = sooner(refused, one.refused);
-    }
-    Ok(Targets {
-        clafers: found,
-        refused,
-    })
+    let table = NameTable::build(alloc, clafers)?;
+    let targets = all_targets(alloc, clafers, &table, plain)?;
+    Ok(targets)
 }
 
 fn refers_to(target: Option<u32>, reference: Option<Reference>) -> Option<Reference>
@@ -103,8 +125,8 @@ fn with_targets(
 
 /// The clafers of a model, whose supers are looked up, with the targets of their references.
 ///
-/// The model is refused by the earliest place of a target that is not found, with 67, or is ambiguous, with 63. Each target
-/// costs what [`name_resolver::meaning`] costs.
+/// The model is refused by the earliest place of a target that is not found, with 67, or is ambiguous, with 63. The table
+/// of names is made once; then each target costs what [`name_tables::meaning`] costs.
 pub fn find_targets(
     alloc: Global,
     clafers: &List<Clafer>,
@@ -120,7 +142,7 @@ pub fn find_targets(
     ensures known { IfOk result (λ all. IsTrue (is_closed all)) }
     ensures cause { IfErr result (λ fault. Explains clafers.now plain.now fault) }
 {
-    let targets = all_targets(alloc, clafers, plain.as_slice())?;
+    let targets = targets_of(alloc, clafers, plain.as_slice())?;
     match targets.refused {
         Some(refusal) => Err(Fault::Refused(refusal)),
         None => {

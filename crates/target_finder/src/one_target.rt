@@ -4,11 +4,13 @@ ghost use Rattle.std.specs.Prelude.{◌≡◌, ◌<◌, ◌^◌, length, IfOk, I
 ghost use Rattle.clf_tree.specs.Hierarchy.{is_below, is_closed};
 ghost use Rattle.clf_tree.specs.Named.{each, follows_parent};
 ghost use Rattle.name_resolver.specs.Meaning.{meaning_of};
+ghost use Rattle.name_tables.specs.Tables.{IsTableOf};
 ghost use Rattle.target_finder.specs.Targets as spec;
 
 use clf_base::{List, NoMemory, Refusal, Span};
 use clf_tree::{Clafer, Pointer, Title};
-use name_resolver::{Found, Meant, meaning};
+use name_resolver::{Found, Meant};
+use name_tables::{NameTable, meaning};
 use refusal_order::refused;
 use std::alloc::Global;
 
@@ -52,6 +54,7 @@ fn found_target(at: Span, found: &Found) -> Target
 fn named_target(
     alloc: Global,
     clafers: &List<Clafer>,
+    table: &NameTable,
     parent: Option<u32>,
     title: &Title,
 ) -> Result<Target, NoMemory>
@@ -59,10 +62,11 @@ fn named_target(
     requires closed { IsTrue (is_closed clafers.now) }
     requires parents_first { IsTrue (each clafers.now (follows_parent clafers.now)) }
     requires few { length clafers.now < 2 ^ 32 }
+    requires table { IsTableOf clafers.now table.now }
     ensures clafer { IfOk result (λ t. t.clafer ≡ spec.clafer_of (meaning_of clafers.now parent title.now.name)) }
     ensures refused { IfOk result (λ t. t.refused ≡ spec.refusal_of title.now.at (meaning_of clafers.now parent title.now.name)) }
 {
-    let found = meaning(alloc, clafers, parent, &title.name)?;
+    let found = meaning(alloc, clafers, table, parent, &title.name)?;
     Ok(found_target(title.at, &found))
 }
 
@@ -70,6 +74,7 @@ fn named_target(
 pub fn find_target(
     alloc: Global,
     clafers: &List<Clafer>,
+    table: &NameTable,
     parent: Option<u32>,
     reference: &Option<Pointer>,
 ) -> Result<Target, NoMemory>
@@ -77,12 +82,13 @@ pub fn find_target(
     requires closed { IsTrue (is_closed clafers.now) }
     requires parents_first { IsTrue (each clafers.now (follows_parent clafers.now)) }
     requires few { length clafers.now < 2 ^ 32 }
+    requires table { IsTableOf clafers.now table.now }
     ensures clafer { IfOk result (λ t. t.clafer ≡ spec.target_from clafers.now parent reference.now) }
     ensures refused { IfOk result (λ t. t.refused ≡ spec.refusal_from clafers.now parent reference.now) }
 {
     if let Some(pointer) = reference {
         if let Some(title) = &pointer.to {
-            return named_target(alloc, clafers, parent, title);
+            return named_target(alloc, clafers, table, parent, title);
         }
     }
     Ok(Target {

@@ -1,9 +1,0 @@
-use Rattle.std.proofs.Common.{◌≡◌, length, vec_len, take}
-use Rattle.name_resolver.specs.Marks.{MarksParents}
-use Rattle.name_resolver.proofs.marks.marks_parents.Given as goal
-
-abbrev pub invariant-loop-clafer : goal.invariant-loop-clafer
-invariant-loop-clafer l = record {
-  sized : vec_len l.marks ≡ length l.clafers;
-  marked : MarksParents l.clafers (take l.clafer-index l.clafer-items) l.marks.items;
-}

@@ -1,0 +1,6 @@
+pub mod Filling
+pub mod Finding
+pub mod Grouping
+pub mod Inheriting
+pub mod Reaching
+pub mod Summing
