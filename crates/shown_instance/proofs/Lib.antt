@@ -5,6 +5,7 @@ pub mod Belonging
 pub mod Bounding
 pub mod Consistent
 pub mod Counts
+pub mod Differing
 pub mod Ending
 pub mod Fitted
 pub mod Hinge
