@@ -9,6 +9,7 @@ pub mod Differing
 pub mod Ending
 pub mod Fitted
 pub mod Hinge
+pub mod Joined
 pub mod Merging
 pub mod Once
 pub mod Order

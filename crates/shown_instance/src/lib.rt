@@ -8,6 +8,7 @@ mod counting;
 mod laws;
 mod placement;
 mod sets;
+mod shaping;
 
 pub use consistency::consistent_bits_show_an_instance;
 pub use counting::{bounds_are_told, entries_are_counted};
@@ -17,3 +18,4 @@ pub use laws::{
 };
 pub use placement::{parents_and_targets_are_told, trees_are_told};
 pub use sets::sets_are_told;
+pub use shaping::shaped_bits_show_a_tree;
