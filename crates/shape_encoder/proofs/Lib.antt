@@ -1,6 +1,9 @@
+pub mod Compared
 pub mod Laid
 pub mod Led
 pub mod Placed
 pub mod Ranged
 pub mod Steps
 pub mod Taken
+pub mod Turning
+pub mod Unequal
