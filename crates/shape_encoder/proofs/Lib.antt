@@ -1,5 +1,6 @@
 pub mod Allowing
 pub mod Bounding
+pub mod Compared
 pub mod Laid
 pub mod Led
 pub mod Marking
@@ -8,3 +9,5 @@ pub mod Ranged
 pub mod Steps
 pub mod Tabling
 pub mod Taken
+pub mod Turning
+pub mod Unequal

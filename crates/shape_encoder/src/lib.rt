@@ -12,9 +12,11 @@ mod counted;
 mod laws;
 mod placement;
 mod ranges;
+mod sets;
 mod taking;
 
 pub use bounds::have_bounds;
 pub use consistency::consistent;
 pub use laws::layouts_that_fit_are_laid;
 pub use placement::{have_parents, have_targets};
+pub use sets::have_sets;
