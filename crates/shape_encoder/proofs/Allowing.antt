@@ -1,5 +1,5 @@
 -- Counts of wires between two bounds.
-use Rattle.std.proofs.Common.{◌≡◌, ℕ, ◌<◌, ◌≤◌, Bool, true, false, cond, ◌&&◌, List, [], ◌∷◌, length, Option, Some, None, refl, sym, ap, ◌∙◌, arith, is_none}
+use Rattle.std.proofs.Common.{◌≡◌, ℕ, ◌+◌, ◌<◌, ◌≤◌, Bool, true, false, cond, ◌&&◌, List, [], ◌∷◌, length, Option, Some, None, refl, sym, ap, ◌∙◌, arith, is_none}
 use Rattle.std.specs.Prelude.{nat_lt, nat_le}
 use Rattle.std.specs.Option.{option_map_or}
 use Rattle.std.proofs.lemmas.Bool.{true≢false}
@@ -13,6 +13,14 @@ use Rattle.integer_bits.specs.Totals.{count_true}
 use Rattle.clf_tree.specs.declared.module.Interval.{Interval}
 use Rattle.clf_tree.specs.Shape.{allows}
 use Rattle.shape_encoder.specs.Counting.{clipped}
+use Rattle.std.specs.Prelude.{pos, int_le}
+use Rattle.std.proofs.Math.Nat.{mul-le-mul_left}
+use Rattle.std.proofs.Common.{to_z, of_z}
+use mir.Syntax.{w128}
+use Rattle.std.proofs.lemmas.Int.{ints, to_z-of_z}
+use Rattle.integer_bits.specs.Numbers.{integer_of, integer_at, FitsBits}
+use Rattle.bool_circuit.proofs.Extending.{extends_trans}
+use Rattle.shape_encoder.specs.Counting.{counted_cost, sum_cost}
 
 count_within : (bs : List Bool) → count_true bs ≤ length bs
 count_within [] = omega arith
@@ -54,3 +62,43 @@ between_told old first second new ws low high m n enough few wire all x y w ev f
     ∙ ap (λ b. nat_le low (count_true (wire_values old ws bits)) && b) (fv bits ∙ ap (λ bs. nat_le (count_true bs) high) (wire_values_stay old first m ws bits x all))
 
 -- ---- how many wires they add
+
+-- ---- large counts
+
+pub sum_fits : (n u : ℕ) → 64 ≤ u → u ≤ n → sum_cost n ≤ counted_cost n u
+sum_fits n u h l = let p = mul-le-mul_left {m = 65} {n = u + 1} n (omega (arith, h)) in omega (arith, p, h, l)
+
+pub fits_eleven : (m : ℕ) → m ≤ 1023 → FitsBits 11 (pos m)
+fits_eleven m h = record { low = omega (arith, ints); high = omega (arith, ints, h) }
+
+-- a small number that is passed on
+pub passed_small : (n : ℕ) → n ≤ 1023 → to_z w128 (of_z w128 (pos n)) ≡ pos n
+passed_small n h = to_z-of_z w128 (pos n) (record { sfits = omega (arith, ints, h) })
+
+pub low_of_sum : (low n m : ℕ) → m ≤ n → (nat_le low m && nat_le m n) ≡ nat_le low m
+low_of_sum low n m h = ap (λ b. nat_le low m && b) within ∙ same (nat_le low m)
+  where
+    within : nat_le m n ≡ true
+    within = grind (arith, nat_tests)
+
+    same : (b : Bool) → (b && true) ≡ b
+    same true = refl
+    same false = refl
+
+natural : (a b : ℕ) → int_le (pos a) (pos b) ≡ nat_le a b
+natural a b = grind (arith, ints, nat_tests)
+
+-- three numbers, one after another, and whether the first lies between the others
+pub sum_told : (old first second third new : List Gate) (ws total least most : List Wire) (low high m n p : ℕ) (right : Wire) → AreWiresOf old ws → length ws ≤ 1023 → AreWiresOf first total → AreWiresOf second least → Extends first second n → Extends second third p
+    → ((bits : List Bool) → FitsBits 11 (pos (count_true (wire_values old ws bits))) → integer_at first total bits ≡ pos (count_true (wire_values old ws bits)))
+    → ((bits : List Bool) → integer_at second least bits ≡ pos low)
+    → ((bits : List Bool) → integer_at third most bits ≡ pos high)
+    → ((bits : List Bool) → wire_value new right bits ≡ (int_le (integer_at third least bits) (integer_at third total bits) && int_le (integer_at third total bits) (integer_at third most bits)))
+    → (bits : List Bool) → wire_value new right bits ≡ (nat_le low (count_true (wire_values old ws bits)) && nat_le (count_true (wire_values old ws bits)) high)
+sum_told old first second third new ws total least most low high m n p right in_ws few in_total in_least x y tv lv mv v bits =
+    v bits
+    ∙ ap (λ z. int_le z (integer_at third total bits) && int_le (integer_at third total bits) (integer_at third most bits)) (ap integer_of (wire_values_stay second third p least bits y in_least) ∙ lv bits)
+    ∙ ap (λ z. int_le (pos low) z && int_le z (integer_at third most bits)) (ap integer_of (wire_values_stay first third (n + p) total bits (extends_trans first second third n p x y) in_total) ∙ tv bits (fits_eleven (count_true (wire_values old ws bits)) (let i = wires_within old ws bits in omega (arith, i, few))))
+    ∙ ap (λ z. int_le (pos low) (pos (count_true (wire_values old ws bits))) && int_le (pos (count_true (wire_values old ws bits))) z) (mv bits)
+    ∙ ap (λ b. b && int_le (pos (count_true (wire_values old ws bits))) (pos high)) (natural low (count_true (wire_values old ws bits)))
+    ∙ ap (λ b. nat_le low (count_true (wire_values old ws bits)) && b) (natural (count_true (wire_values old ws bits)) high)

@@ -17,7 +17,7 @@ use Rattle.set_bits.specs.declared.layout.Layout.{Layout}
 use Rattle.set_bits.specs.Fitting.{slot_clafer}
 use Rattle.shown_instance.specs.Shown.{is_live}
 use Rattle.shown_instance.specs.Bounds.{is_declared_under, children_below, have_times, have_group}
-use Rattle.shape_encoder.specs.Reading.{IsBit}
+use Rattle.shape_encoder.specs.Reading.{IsBit, range_cost}
 use Rattle.shape_encoder.specs.declared.counted.Counted.{Counted}
 use Rattle.shape_encoder.specs.declared.counted.Counted.TheVariants.{Instances, DeclaredUnder}
 use Rattle.shape_encoder.specs.declared.children.Child.{Child}
@@ -69,6 +69,10 @@ most_counted interval n = min n (option_map_or (λ high. high) interval.high int
 -- for counting n wires up to u
 abbrev pub counted_cost : ℕ → ℕ → ℕ
 counted_cost n u = 8 * (n * (u + 1)) + 10
+
+-- for summing up n wires on eleven bits, and comparing the sum with two bounds
+abbrev pub sum_cost : ℕ → ℕ
+sum_cost n = 32 * ((n + 1) * (11 + 1)) + 2 + 2 + range_cost 11 11 11
 
 -- for a slot with n children that are counted
 abbrev pub slot_cost : Interval → ℕ → ℕ
