@@ -96,3 +96,15 @@ parents_known clafers scopes layout f = edges_known (owners clafers) layout layo
 
 pub targets_known : (clafers : List Clafer) (scopes : Scopes) (layout : Layout) → Fits clafers scopes layout → All (λ e. e.to < length layout.live) layout.targets
 targets_known clafers scopes layout f = edges_known (referred clafers) layout layout.targets (live_sized clafers scopes layout f) f.targets
+
+-- edges to parents lead from slots to slots
+between : (clafers : List Clafer) (scopes : Scopes) (layout : Layout) → Fits clafers scopes layout → All (λ e. (nat_lt e.from (length layout.slots) && nat_lt e.to (length layout.slots)) ≡ true) layout.parents
+between clafers scopes layout f = all_pass (λ (x : Edge). nat_lt x.from (length layout.slots) && nat_lt x.to (length layout.slots)) layout.parents (edges_between (owners clafers) layout.slots layout.parents f.parents)
+
+pub children_known : (clafers : List Clafer) (scopes : Scopes) (layout : Layout) → Fits clafers scopes layout → All (λ e. e.from < length layout.slots) layout.parents
+children_known clafers scopes layout f = λ k d l.
+    less (get_or layout.parents k d).from (length layout.slots) (both (nat_lt (get_or layout.parents k d).from (length layout.slots)) (nat_lt (get_or layout.parents k d).to (length layout.slots)) (between clafers scopes layout f k d l)).0
+
+pub owners_known : (clafers : List Clafer) (scopes : Scopes) (layout : Layout) → Fits clafers scopes layout → All (λ e. e.to < length layout.slots) layout.parents
+owners_known clafers scopes layout f = λ k d l.
+    less (get_or layout.parents k d).to (length layout.slots) (both (nat_lt (get_or layout.parents k d).from (length layout.slots)) (nat_lt (get_or layout.parents k d).to (length layout.slots)) (between clafers scopes layout f k d l)).1

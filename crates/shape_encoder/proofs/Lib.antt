@@ -1,6 +1,13 @@
+pub mod Allowing
+pub mod Bounding
+pub mod Compared
 pub mod Laid
 pub mod Led
+pub mod Marking
 pub mod Placed
 pub mod Ranged
 pub mod Steps
+pub mod Tabling
 pub mod Taken
+pub mod Turning
+pub mod Unequal

@@ -18,7 +18,7 @@ use Rattle.shape_encoder.specs.Reading.{IsBit}
 use Rattle.shape_encoder.specs.Taking.{AreTaken}
 use Rattle.shape_encoder.proofs.Steps.{all_item, take_item, list_all-push}
 
-each_two-push : {X : Type 0} (t : X → X → Bool) (xs : List X) (x : X) → each_two t (xs ++ x ∷ []) ≡ (each_two t xs && list_all (λ y. t y x) xs)
+pub each_two-push : {X : Type 0} (t : X → X → Bool) (xs : List X) (x : X) → each_two t (xs ++ x ∷ []) ≡ (each_two t xs && list_all (λ y. t y x) xs)
 each_two-push t [] x = refl
 each_two-push t (y ∷ ys) x =
     ap (λ b. b && each_two t (ys ++ x ∷ [])) (list_all-push (t y) ys x) ∙ ap (λ b. (list_all (t y) ys && t y x) && b) (each_two-push t ys x)

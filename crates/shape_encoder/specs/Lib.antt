@@ -1,3 +1,5 @@
+pub mod Comparing
+pub mod Counting
 pub mod Placing
 pub mod Reading
 pub mod Taking

@@ -4,12 +4,19 @@
 //! contract tells.
 #![tactic(auto)]
 
+mod amounts;
+mod bounds;
+mod children;
 mod consistency;
+mod counted;
 mod laws;
 mod placement;
 mod ranges;
+mod sets;
 mod taking;
 
+pub use bounds::have_bounds;
 pub use consistency::consistent;
 pub use laws::layouts_that_fit_are_laid;
 pub use placement::{have_parents, have_targets};
+pub use sets::have_sets;

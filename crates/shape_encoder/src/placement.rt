@@ -25,7 +25,8 @@ pub(crate) enum Tie {
     Target,
 }
 
-fn parent_of(clafers: &List<Clafer>, clafer: u32) -> Option<u32>
+/// The clafer under which a clafer is declared.
+pub(crate) fn parent_of(clafers: &List<Clafer>, clafer: u32) -> Option<u32>
     ensures { result ≡ parent_of clafers.now clafer }
 {
     match clafers.as_slice().get(clafer as usize) {

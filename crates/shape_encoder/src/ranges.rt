@@ -50,8 +50,8 @@ fn ends_of(alloc: Global, circuit: &mut Circuit, scopes: &Scopes) -> Result<Ends
     Ok(Ends { low, high })
 }
 
-// Whether a number lies between two others.
-fn is_between(
+/// Whether a number lies between two others.
+pub(crate) fn is_between(
     alloc: Global,
     circuit: &mut Circuit,
     number: &List<Wire>,

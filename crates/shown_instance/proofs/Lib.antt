@@ -5,9 +5,11 @@ pub mod Belonging
 pub mod Bounding
 pub mod Consistent
 pub mod Counts
+pub mod Differing
 pub mod Ending
 pub mod Fitted
 pub mod Hinge
+pub mod Joined
 pub mod Merging
 pub mod Once
 pub mod Order

@@ -76,7 +76,7 @@ ascend_from t m a (suc n) =
 ends_ascend : (near : ℕ → List ℕ) (slots : List Node) → each_two is_earlier (all_ends near slots) ≡ true
 ends_ascend near slots = ascend_from (λ i j. has (near (slot_clafer slots i)) (slot_clafer slots j)) (length slots) 0 (length slots)
 
-each_two-map : {X Y : Type 0} (t : Y → Y → Bool) (h : X → Y) (xs : List X) → each_two t (map h xs) ≡ each_two (λ a b. t (h a) (h b)) xs
+pub each_two-map : {X Y : Type 0} (t : Y → Y → Bool) (h : X → Y) (xs : List X) → each_two t (map h xs) ≡ each_two (λ a b. t (h a) (h b)) xs
 each_two-map t h [] = refl
 each_two-map t h (x ∷ xs) = ap (λ b. b && each_two t (map h xs)) (list_all-map (t (h x)) h xs) ∙ ap (λ b. list_all (λ y. t (h x) (h y)) xs && b) (each_two-map t h xs)
 
@@ -85,7 +85,7 @@ all_at p [] i d a h = absurd (omega arith)
 all_at p (x ∷ xs) zero d a h = (both (p x) (list_all p xs) a).0
 all_at p (x ∷ xs) (suc i) d a h = all_at p xs i d (both (p x) (list_all p xs) a).1 (omega arith)
 
-two_at : {X : Type 0} (t : X → X → Bool) (xs : List X) (i j : ℕ) (d e : X) → each_two t xs ≡ true → i < j → j < length xs → t (get_or xs i d) (get_or xs j e) ≡ true
+pub two_at : {X : Type 0} (t : X → X → Bool) (xs : List X) (i j : ℕ) (d e : X) → each_two t xs ≡ true → i < j → j < length xs → t (get_or xs i d) (get_or xs j e) ≡ true
 two_at t [] i j d e a h l = absurd (omega arith)
 two_at t (x ∷ xs) i zero d e a h l = absurd (omega arith)
 two_at t (x ∷ xs) zero (suc j) d e a h l = all_at (t x) xs j e (both (list_all (t x) xs) (each_two t xs) a).0 (omega arith)

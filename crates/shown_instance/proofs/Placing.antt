@@ -45,13 +45,13 @@ same_truth true false f g = sym (f refl)
 same_truth false true f g = g refl
 same_truth false false f g = refl
 
-same_number : (a b : ℕ) → (a == b) ≡ true → a ≡ b
+pub same_number : (a b : ℕ) → (a == b) ≡ true → a ≡ b
 same_number a b t = grind (arith, common_steps)
 
 itself : (n : ℕ) → (n == n) ≡ true
 itself n = grind (arith, common_steps)
 
-implied : (a b : Bool) → (not a || b) ≡ true → a ≡ true → b ≡ true
+pub implied : (a b : Bool) → (not a || b) ≡ true → a ≡ true → b ≡ true
 implied true b t u = t
 implied false b t u = absurd (true≢false (sym u))
 
@@ -76,7 +76,7 @@ told_each p g l a (suc m) i t low high u = by (l a) refl (eqb_tells a i) t (λ m
 
 -- ---- the edge that is taken
 
-any_find : {X : Type 0} (p : X → Bool) (xs : List X) → list_any p xs ≡ is_some (find p xs)
+pub any_find : {X : Type 0} (p : X → Bool) (xs : List X) → list_any p xs ≡ is_some (find p xs)
 any_find p [] = refl
 any_find p (x ∷ xs) = by (p x) (any_find p xs)
   where
@@ -85,11 +85,11 @@ any_find p (x ∷ xs) = by (p x) (any_find p xs)
     by false rest = rest
 
 -- what is known of the edges of one kind
-record AreRight (near : ℕ → List ℕ) (layout : Layout) (edges : List Edge) (bits : List Bool) : Type 0 where
-  asc : each_two is_before layout.slots ≡ true
-  sound : All (IsSound layout bits) edges
-  single : (i : ℕ) → count_by (is_taken bits i) edges ≤ 1
-  close : list_all (leads_near near layout.slots) edges ≡ true
+pub record AreRight (near : ℕ → List ℕ) (layout : Layout) (edges : List Edge) (bits : List Bool) : Type 0 where
+  pub asc : each_two is_before layout.slots ≡ true
+  pub sound : All (IsSound layout bits) edges
+  pub single : (i : ℕ) → count_by (is_taken bits i) edges ≤ 1
+  pub close : list_all (leads_near near layout.slots) edges ≡ true
 
 -- the edge of a slot that is taken
 record Takes (near : ℕ → List ℕ) (layout : Layout) (edges : List Edge) (bits : List Bool) (i : ℕ) : Type 0 where
@@ -224,7 +224,7 @@ unplaced near asked allowed layout edges bits r a right =
 
 -- ---- parents
 
-right_edges : (near : ℕ → List ℕ) (clafers : List Clafer) (scopes : Scopes) (layout : Layout) (edges : List Edge) (bits : List Bool) → Fits clafers scopes layout → All (IsSound layout bits) edges → are_single edges bits ≡ true → list_all (leads_near near layout.slots) edges ≡ true → AreRight near layout edges bits
+pub right_edges : (near : ℕ → List ℕ) (clafers : List Clafer) (scopes : Scopes) (layout : Layout) (edges : List Edge) (bits : List Bool) → Fits clafers scopes layout → All (IsSound layout bits) edges → are_single edges bits ≡ true → list_all (leads_near near layout.slots) edges ≡ true → AreRight near layout edges bits
 right_edges near clafers scopes layout edges bits f sound single close = record {
   asc = ap (each_two is_before) f.slots ∙ slots_ascend clafers scopes;
   sound = sound;
@@ -287,7 +287,7 @@ has_instance p (e ∷ es) n = by (p e.node.clafer) refl (same_node n e.node) ref
         rest ∙ ap (λ b. b && has_node (nodes_of es) n) mine ∙ sym (ap (λ b. b && (same_node n e.node || has_node (nodes_of es) n)) mine)
     by false u false s rest = rest ∙ sym (ap (λ b. p n.clafer && (b || has_node (nodes_of es) n)) s)
 
-below_is : (clafers : List Clafer) (q d : ℕ) → has (concrete_below clafers q) d ≡ true → is_a clafers d q ≡ true
+pub below_is : (clafers : List Clafer) (q d : ℕ) → has (concrete_below clafers q) d ≡ true → is_a clafers d q ≡ true
 below_is clafers q d t =
     (both (is_concrete clafers d) (is_a clafers d q)
     (both (is_concrete clafers d && is_a clafers d q) (has (numbers_below (length clafers)) d)

@@ -92,7 +92,7 @@ ahead_of p x a (suc m) h = by (p a) (ahead_of p x (a + 1) m (omega arith))
     by true rest = together (nat_lt x a) (list_all (nat_lt x) (filter p (range_with_len (a + 1) m))) (less x a h) rest
     by false rest = rest
 
-numbers_ascend : (p : ℕ → Bool) (a m : ℕ) → each_two nat_lt (filter p (range_with_len a m)) ≡ true
+pub numbers_ascend : (p : ℕ → Bool) (a m : ℕ) → each_two nat_lt (filter p (range_with_len a m)) ≡ true
 numbers_ascend p a zero = refl
 numbers_ascend p a (suc m) = by (p a) (numbers_ascend p (a + 1) m)
   where
@@ -124,7 +124,7 @@ own_integer clafers scopes layout bits f k d l =
     ap (option_map (λ (v : SlotBits). integer_of (value_bits bits v)))
     (own_found layout.values (ap (each_two nat_lt) f.values ∙ numbers_ascend (λ i. refers_to_int clafers (slot_clafer layout.slots i)) 0 (length layout.slots)) k d l)
 
-some_any : {X Y : Type 0} (p : X → Bool) (f : X → Y) (xs : List X) → is_some (option_map f (find p xs)) ≡ list_any p xs
+pub some_any : {X Y : Type 0} (p : X → Bool) (f : X → Y) (xs : List X) → is_some (option_map f (find p xs)) ≡ list_any p xs
 some_any p f [] = refl
 some_any p f (x ∷ xs) = by (p x) (some_any p f xs)
   where

@@ -1,0 +1,14 @@
+-- How many wires the rules of shape add.
+use Rattle.std.specs.Prelude.{◌+◌, ℕ, List}
+use Rattle.clf_tree.specs.declared.model.Clafer.{Clafer}
+use Rattle.clf_tree.specs.declared.scopes.Scopes.{Scopes}
+use Rattle.set_bits.specs.declared.layout.Layout.{Layout}
+use Rattle.shape_encoder.specs.Reading.{consistent_cost}
+use Rattle.shape_encoder.specs.Placing.{placed_cost}
+use Rattle.shape_encoder.specs.Counting.{bounds_cost}
+use Rattle.shape_encoder.specs.Comparing.{sets_cost}
+
+-- for all rules of shape
+abbrev pub shape_cost : List Clafer → Scopes → Layout → ℕ
+shape_cost clafers scopes layout =
+    consistent_cost scopes layout + placed_cost layout layout.parents + placed_cost layout layout.targets + bounds_cost clafers layout + sets_cost clafers layout + 4

@@ -1,0 +1,131 @@
+-- How far slots are compared with each other.
+use Rattle.std.specs.Prelude.{◌≡◌, ◌+◌, ◌*◌, ◌<◌, ℕ, Bool, ◌&&◌, ◌||◌, ◌==◌, not, List, [], length, map, Option, if◌then◌else◌, slice_index_or, slice_get, take, is_none, true, false, max}
+use Rattle.std.specs.Option.{option_map_or}
+use Rattle.std.specs.List.{filter, list_all, list_any, sum_by}
+use Rattle.bool_circuit.specs.declared.gate.Wire.{Wire}
+use Rattle.bool_circuit.specs.declared.gate.Gate.{Gate}
+use Rattle.bool_circuit.specs.Circuit.{wire_value, entry, IsWireOf, Extends}
+use Rattle.clf_tree.specs.declared.model.Clafer.{Clafer}
+use Rattle.clf_tree.specs.Lists.{numbers_below, each_two}
+use Rattle.set_bits.specs.declared.layout.Edge.{Edge}
+use Rattle.set_bits.specs.declared.layout.SlotBits.{SlotBits}
+use Rattle.set_bits.specs.declared.layout.Layout.{Layout}
+use Rattle.set_bits.specs.Showing.{value_bits}
+use Rattle.integer_bits.specs.Numbers.{integer_of}
+use Rattle.std.specs.Ordering.{int_eq}
+use Rattle.set_bits.specs.Fitting.{slot_clafer}
+use Rattle.set_bits.specs.Sets.{is_here}
+use Rattle.set_bits.specs.Reaching.{wire_at}
+use Rattle.set_bits.specs.Reaching.{IsTableOf}
+use Rattle.shown_instance.specs.Distinct.{leads_there, allows_two, tells_apart, targets_differ, integers_differ}
+
+-- whether two instances of a clafer can have one parent, or none
+abbrev pub may_be_two : List Clafer → ℕ → Bool
+may_be_two clafers c = option_map_or (λ k. is_none k.parent || allows_two k.times) (slice_get clafers c) true
+
+-- the edge that leads back
+abbrev pub turned : Edge → Edge
+turned e = record { from = e.to; to = e.from; here = e.here }
+
+-- the edges of a slot, turned round
+abbrev pub turned_from : List Edge → ℕ → List Edge
+turned_from edges i = map turned (filter (λ e. e.from == i) edges)
+
+abbrev pub list_at : List (List Edge) → ℕ → List Edge
+list_at table i = slice_index_or table i []
+
+-- at each of the first slots its edges, turned round
+pub record HoldsEdges (edges : List Edge) (count : ℕ) (table : List (List Edge)) : Type 0 where
+  pub len : length table ≡ count
+  pub at : (i : ℕ) → i < count → list_at table i ≡ turned_from edges i
+
+-- whether an edge is taken that leads from a slot whose wire is true
+abbrev pub joins : List Gate → List (Option Wire) → List Bool → Edge → Bool
+joins gates table bits e = is_here gates (wire_at table e.from) bits && entry bits e.here
+
+-- a wire that is true where one of the first n edges is such
+pub record IsJoinedSoFar (old : List Gate) (table : List (Option Wire)) (edges : List Edge) (n : ℕ) (new : List Gate) (wire : Wire) : Type 0 where
+  pub extends : Extends old new (2 * n + 1)
+  pub is_wire : IsWireOf new wire
+  pub value : (bits : List Bool) → wire_value new wire bits ≡ list_any (joins old table bits) (take n edges)
+
+-- a wire for each slot to which a slot can be tied
+pub record IsTiedBy (gates : List Gate) (edges : List Edge) (slot : ℕ) (table : List (Option Wire)) : Type 0 where
+  pub wires : IsTableOf gates table
+  pub leads : (bits : List Bool) (k : ℕ) → is_here gates (wire_at table k) bits ≡ leads_there edges bits slot k
+
+-- a wire that is true where a slot differs from the first n ones
+pub record DiffersSoFar (old : List Gate) (clafers : List Clafer) (layout : Layout) (slot n : ℕ) (cost : ℕ) (new : List Gate) (wire : Wire) : Type 0 where
+  pub extends : Extends old new cost
+  pub is_wire : IsWireOf new wire
+  pub value : (bits : List Bool) → wire_value new wire bits ≡ list_all (λ j. targets_differ clafers layout bits j slot) (numbers_below n)
+
+-- a wire that is true where the first n slots differ from each other
+pub record DifferSoFar (old : List Gate) (clafers : List Clafer) (layout : Layout) (n : ℕ) (cost : ℕ) (new : List Gate) (wire : Wire) : Type 0 where
+  pub extends : Extends old new cost
+  pub is_wire : IsWireOf new wire
+  pub value : (bits : List Bool) → wire_value new wire bits ≡ each_two (targets_differ clafers layout bits) (numbers_below n)
+
+-- ---- how many wires the rules add
+
+-- for two slots
+abbrev pub pair_cost : Layout → ℕ → ℕ → ℕ
+pair_cost layout j i = if slot_clafer layout.slots j == slot_clafer layout.slots i then 2 * length (turned_from layout.parents j) + 2 * length (turned_from layout.targets j) + 5 else 0
+
+-- for a slot and the ones before it
+abbrev pub pairs_cost : Layout → ℕ → ℕ → ℕ
+pairs_cost layout i n = sum_by (λ j. pair_cost layout j i) (numbers_below n)
+
+abbrev pub slot_cost : List Clafer → Layout → ℕ → ℕ
+slot_cost clafers layout i =
+    if tells_apart clafers (slot_clafer layout.slots i)
+    then ((4 * length (turned_from layout.parents i) + 1) + (4 * length (turned_from layout.targets i) + 1)) + (pairs_cost layout i i + 1) + 1 else 0
+
+abbrev pub slots_cost : List Clafer → Layout → ℕ → ℕ
+slots_cost clafers layout n = sum_by (slot_cost clafers layout) (numbers_below n)
+
+abbrev pub targets_cost : List Clafer → Layout → ℕ
+targets_cost clafers layout = slots_cost clafers layout (length layout.slots) + 1
+
+-- ---- integers
+
+-- whether the bit of a slot is true
+abbrev pub is_on : List Wire → List Bool → ℕ → Bool
+is_on live bits i = option_map_or (entry bits) (slice_get live i) false
+
+-- whether two slots are live and their integers equal
+abbrev pub are_equal : List Wire → List Bool → SlotBits → SlotBits → Bool
+are_equal live bits v w = (is_on live bits v.slot && is_on live bits w.slot) && int_eq (integer_of (value_bits bits v)) (integer_of (value_bits bits w))
+
+-- a wire that is true where an integer differs from the first n ones
+pub record IntegerDiffersSoFar (old : List Gate) (clafers : List Clafer) (layout : Layout) (later : SlotBits) (n : ℕ) (cost : ℕ) (new : List Gate) (wire : Wire) : Type 0 where
+  pub extends : Extends old new cost
+  pub is_wire : IsWireOf new wire
+  pub value : (bits : List Bool) → wire_value new wire bits ≡ list_all (λ v. integers_differ clafers layout bits v later) (take n layout.values)
+
+-- a wire that is true where the first n integers differ from each other
+pub record IntegersDifferSoFar (old : List Gate) (clafers : List Clafer) (layout : Layout) (n : ℕ) (cost : ℕ) (new : List Gate) (wire : Wire) : Type 0 where
+  pub extends : Extends old new cost
+  pub is_wire : IsWireOf new wire
+  pub value : (bits : List Bool) → wire_value new wire bits ≡ each_two (integers_differ clafers layout bits) (take n layout.values)
+
+abbrev pub equal_cost : SlotBits → SlotBits → ℕ
+equal_cost v w = 4 * (max (length v.bits) (length w.bits) + 1) + 2
+
+abbrev pub integer_pair_cost : Layout → SlotBits → SlotBits → ℕ
+integer_pair_cost layout v w = if slot_clafer layout.slots v.slot == slot_clafer layout.slots w.slot then (2 * length (turned_from layout.parents v.slot) + 1) + equal_cost v w + 3 else 0
+
+abbrev pub integer_pairs_cost : Layout → SlotBits → ℕ → ℕ
+integer_pairs_cost layout w n = sum_by (λ v. integer_pair_cost layout v w) (take n layout.values)
+
+abbrev pub own_value_cost : List Clafer → Layout → SlotBits → ℕ → ℕ
+own_value_cost clafers layout v k = if tells_apart clafers (slot_clafer layout.slots v.slot) then (4 * length (turned_from layout.parents v.slot) + 1) + (integer_pairs_cost layout v k + 1) + 1 else 0
+
+abbrev pub value_cost : List Clafer → Layout → ℕ → ℕ
+value_cost clafers layout k = option_map_or (λ v. own_value_cost clafers layout v k) (slice_get layout.values k) 0
+
+abbrev pub values_cost : List Clafer → Layout → ℕ → ℕ
+values_cost clafers layout n = sum_by (value_cost clafers layout) (numbers_below n)
+
+abbrev pub sets_cost : List Clafer → Layout → ℕ
+sets_cost clafers layout = targets_cost clafers layout + (values_cost clafers layout (length layout.values) + 1) + 1
