@@ -1,5 +1,5 @@
 -- Slots that are compared with each other, one after another.
-use Rattle.std.proofs.Common.{◌≡◌, ℕ, zero, suc, ◌+◌, ◌*◌, ◌<◌, ◌≤◌, Bool, true, false, cond, not, ◌&&◌, ◌||◌, List, [], ◌∷◌, ◌++◌, length, map, take, get_or, Option, Some, None, refl, sym, ap, ◌∙◌, subst, arith, ◌⊎◌, inl, inr}
+use Rattle.std.proofs.Common.{◌≡◌, ℕ, zero, suc, ◌+◌, ◌*◌, ◌<◌, ◌≤◌, Bool, true, false, cond, not, ◌&&◌, ◌||◌, List, [], ◌∷◌, length, map, get_or, Option, Some, None, refl, sym, ap, ◌∙◌, subst, arith, ◌⊎◌, inl, inr}
 use Rattle.std.specs.Prelude.{slice_get, ◌==◌, is_some, is_none, IfSome}
 use Rattle.std.specs.List.{All, filter, list_all, list_any, sum_by}
 use Rattle.std.proofs.lemmas.Bool.{cases_eq}
@@ -19,15 +19,14 @@ use Rattle.clf_tree.specs.Hierarchy.{parent_of}
 use Rattle.set_bits.specs.declared.layout.Edge.{Edge}
 use Rattle.set_bits.specs.declared.layout.Layout.{Layout}
 use Rattle.set_bits.specs.Fitting.{slot_clafer}
-use Rattle.set_bits.specs.Sets.{is_here}
-use Rattle.set_bits.specs.Reaching.{wire_at, IsTableOf}
+use Rattle.set_bits.specs.Reaching.{wire_at}
 use Rattle.set_bits.proofs.Combining.{here_stays}
 use Rattle.shown_instance.specs.Shown.{is_taken}
 use Rattle.shown_instance.specs.Consistent.{has_taken}
 use Rattle.shown_instance.specs.Distinct.{leads_there, lead_together, tells_apart, targets_differ}
 use Rattle.shape_encoder.specs.Reading.{IsBit}
 use Rattle.shape_encoder.specs.Taking.{AreTaken}
-use Rattle.shape_encoder.specs.Comparing.{turned, turned_from, list_at, HoldsEdges, joins, IsJoinedSoFar, IsTiedBy, DiffersSoFar, DifferSoFar, pair_cost, pairs_cost, slot_cost, slots_cost}
+use Rattle.shape_encoder.specs.Comparing.{turned, turned_from, HoldsEdges, joins, IsJoinedSoFar, IsTiedBy, DiffersSoFar, DifferSoFar, pair_cost, pairs_cost, slot_cost, slots_cost}
 use Rattle.shape_encoder.proofs.Steps.{and_true, list_all-push, numbers-push}
 use Rattle.shape_encoder.proofs.Taken.{each_two-push}
 

@@ -1,6 +1,6 @@
 -- The edges of each slot, one after another, and what joins two slots.
-use Rattle.std.proofs.Common.{◌≡◌, ℕ, zero, suc, ◌+◌, ◌*◌, ◌<◌, ◌≤◌, Bool, true, false, cond, not, ◌&&◌, ◌||◌, List, [], ◌∷◌, ◌++◌, length, map, replicate, take, get_or, set, Option, Some, refl, sym, ap, ◌∙◌, subst, arith, inl, inr, append-nil}
-use Rattle.std.specs.Prelude.{slice_get, ◌==◌, nat_lt}
+use Rattle.std.proofs.Common.{◌≡◌, ℕ, zero, suc, ◌+◌, ◌*◌, ◌<◌, ◌≤◌, Bool, true, false, cond, ◌&&◌, ◌||◌, List, [], ◌∷◌, ◌++◌, length, map, replicate, take, get_or, set, Option, Some, refl, sym, ap, ◌∙◌, subst, arith, inl, inr, append-nil}
+use Rattle.std.specs.Prelude.{slice_get, ◌==◌}
 use Rattle.std.specs.List.{All, filter, list_any}
 use Rattle.std.proofs.lemmas.Bool.{cases_eq}
 use Rattle.std.proofs.lemmas.Grind.{common_steps}
@@ -9,14 +9,14 @@ use Rattle.std.proofs.lemmas.List.Elements.{filter-append}
 use Rattle.std.proofs.lemmas.List.Folds.{list_any-append}
 use Rattle.bool_circuit.specs.declared.gate.Wire.{Wire}
 use Rattle.bool_circuit.specs.declared.gate.Gate.{Gate}
-use Rattle.bool_circuit.specs.Circuit.{wire_value, entry, IsWireOf, Extends}
+use Rattle.bool_circuit.specs.Circuit.{wire_value, IsWireOf, Extends}
 use Rattle.bool_circuit.proofs.Extending.{extends_trans, extends_within}
 use Rattle.set_bits.specs.declared.layout.Edge.{Edge}
 use Rattle.set_bits.specs.Sets.{is_here}
 use Rattle.set_bits.specs.Reaching.{wire_at, IsTableOf}
 use Rattle.set_bits.proofs.Combining.{or_false, here_stays}
 use Rattle.shape_encoder.specs.Reading.{IsBit}
-use Rattle.shape_encoder.specs.Comparing.{turned, turned_from, list_at, HoldsEdges, joins, IsJoinedSoFar}
+use Rattle.shape_encoder.specs.Comparing.{turned, turned_from, HoldsEdges, joins, IsJoinedSoFar}
 use Rattle.shape_encoder.proofs.Steps.{all_item, take_item}
 
 -- ---- the edges of each slot

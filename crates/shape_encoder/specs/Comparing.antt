@@ -1,5 +1,5 @@
 -- How far slots are compared with each other.
-use Rattle.std.specs.Prelude.{◌≡◌, ◌+◌, ◌*◌, ◌<◌, ℕ, Bool, ◌&&◌, ◌||◌, ◌==◌, not, List, [], length, map, Option, if◌then◌else◌, slice_index_or, slice_get, take, is_none, true, false, max}
+use Rattle.std.specs.Prelude.{◌≡◌, ◌+◌, ◌*◌, ◌<◌, ℕ, Bool, ◌&&◌, ◌||◌, ◌==◌, List, [], length, map, Option, if◌then◌else◌, slice_index_or, slice_get, take, is_none, true, false, max}
 use Rattle.std.specs.Option.{option_map_or}
 use Rattle.std.specs.List.{filter, list_all, list_any, sum_by}
 use Rattle.bool_circuit.specs.declared.gate.Wire.{Wire}

@@ -1,6 +1,6 @@
-use Rattle.std.proofs.Common.{◌≡◌, ◌+◌, ◌*◌, not, true, false, length, refl, ap, ◌∙◌, sym, arith}
+use Rattle.std.proofs.Common.{◌+◌, ◌*◌, length, arith}
 use Rattle.bool_circuit.specs.Circuit.{wire_value}
-use Rattle.shape_encoder.specs.Comparing.{turned_from, pairs_cost, slot_cost}
+use Rattle.shape_encoder.specs.Comparing.{pairs_cost, slot_cost}
 use Rattle.shape_encoder.proofs.Compared.{list_is, untold_value, told_slot, slot_cost_is, costs_same}
 use Rattle.shape_encoder.proofs.sets.and_slot.Goals as goal
 

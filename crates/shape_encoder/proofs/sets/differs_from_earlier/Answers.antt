@@ -1,4 +1,4 @@
-use Rattle.std.proofs.Common.{◌+◌, arith}
+use Rattle.std.proofs.Common.{arith}
 use Rattle.shape_encoder.specs.Comparing.{pair_cost, pairs_cost}
 use Rattle.shape_encoder.proofs.Compared.{cost_step, differs_more, sum_below-room}
 use Rattle.shape_encoder.proofs.sets.differs_from_earlier.Goals as goal

@@ -1,5 +1,5 @@
 use Rattle.std.proofs.Common.{take}
-use Rattle.shape_encoder.proofs.Turning.{none_held, held_more, all_held}
+use Rattle.shape_encoder.proofs.Turning.{none_held, held_more}
 use Rattle.shape_encoder.proofs.sets.edges_of_slots.Goals as goal
 
 pub loop-at-init : goal.loop-at-init
