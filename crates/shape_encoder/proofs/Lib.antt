@@ -1,6 +1,8 @@
 pub mod Compared
 pub mod Laid
 pub mod Led
+pub mod Meeting
+pub mod Ordering
 pub mod Placed
 pub mod Ranged
 pub mod Steps

@@ -188,10 +188,10 @@ values_room clafers layout n w get =
     let e = value_cost_is clafers layout n w get in
     omega (arith, r, e)
 
-pub whole_sets : (old first second new : List Gate) (clafers : List Clafer) (layout : Layout) (m n : ℕ) (nodes integers wire : Wire) → DifferSoFar old clafers layout (length layout.slots) m first nodes → IntegersDifferSoFar first clafers layout (length layout.values) n second integers
-    → ((bits : List Bool) → wire_value new wire bits ≡ (wire_value second nodes bits && wire_value second integers bits)) → (bits : List Bool) → wire_value new wire bits ≡ have_sets clafers layout bits
-whole_sets old first second new clafers layout m n nodes integers wire d e v bits =
-    v bits ∙ ap (λ b. b && wire_value second integers bits) (e.extends.keeps nodes d.is_wire bits ∙ d.value bits)
+pub whole_sets : (first second new : List Gate) (clafers : List Clafer) (layout : Layout) (n : ℕ) (nodes integers wire : Wire) → IsWireOf first nodes → ((bits : List Bool) → wire_value first nodes bits ≡ each_two (targets_differ clafers layout bits) (numbers_below (length layout.slots)))
+    → IntegersDifferSoFar first clafers layout (length layout.values) n second integers → ((bits : List Bool) → wire_value new wire bits ≡ (wire_value second nodes bits && wire_value second integers bits)) → (bits : List Bool) → wire_value new wire bits ≡ have_sets clafers layout bits
+whole_sets first second new clafers layout n nodes integers wire w d e v bits =
+    v bits ∙ ap (λ b. b && wire_value second integers bits) (e.extends.keeps nodes w bits ∙ d bits)
     ∙ ap (λ b. each_two (targets_differ clafers layout bits) (numbers_below (length layout.slots)) && b) (e.value bits ∙ ap (each_two (integers_differ clafers layout bits)) (take_all (length layout.values) layout.values (omega arith)))
 
 -- the premises of each integer
