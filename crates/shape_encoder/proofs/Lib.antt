@@ -4,6 +4,8 @@ pub mod Compared
 pub mod Laid
 pub mod Led
 pub mod Marking
+pub mod Meeting
+pub mod Ordering
 pub mod Placed
 pub mod Ranged
 pub mod Steps

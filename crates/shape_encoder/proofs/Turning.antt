@@ -1,6 +1,6 @@
 -- The edges of each slot, one after another, and what joins two slots.
-use Rattle.std.proofs.Common.{◌≡◌, ℕ, zero, suc, ◌+◌, ◌*◌, ◌<◌, ◌≤◌, Bool, true, false, cond, not, ◌&&◌, ◌||◌, List, [], ◌∷◌, ◌++◌, length, map, replicate, take, get_or, set, Option, Some, refl, sym, ap, ◌∙◌, subst, arith, inl, inr, append-nil}
-use Rattle.std.specs.Prelude.{slice_get, ◌==◌, nat_lt}
+use Rattle.std.proofs.Common.{◌≡◌, ℕ, zero, suc, ◌+◌, ◌*◌, ◌<◌, ◌≤◌, Bool, true, false, cond, ◌&&◌, ◌||◌, List, [], ◌∷◌, ◌++◌, length, map, replicate, take, get_or, set, Option, Some, refl, sym, ap, ◌∙◌, subst, arith, inl, inr, append-nil}
+use Rattle.std.specs.Prelude.{slice_get, ◌==◌}
 use Rattle.std.specs.List.{All, filter, list_any}
 use Rattle.std.proofs.lemmas.Bool.{cases_eq}
 use Rattle.std.proofs.lemmas.Grind.{common_steps}
@@ -9,14 +9,14 @@ use Rattle.std.proofs.lemmas.List.Elements.{filter-append}
 use Rattle.std.proofs.lemmas.List.Folds.{list_any-append}
 use Rattle.bool_circuit.specs.declared.gate.Wire.{Wire}
 use Rattle.bool_circuit.specs.declared.gate.Gate.{Gate}
-use Rattle.bool_circuit.specs.Circuit.{wire_value, entry, IsWireOf, Extends}
+use Rattle.bool_circuit.specs.Circuit.{wire_value, IsWireOf, Extends}
 use Rattle.bool_circuit.proofs.Extending.{extends_trans, extends_within}
 use Rattle.set_bits.specs.declared.layout.Edge.{Edge}
 use Rattle.set_bits.specs.Sets.{is_here}
 use Rattle.set_bits.specs.Reaching.{wire_at, IsTableOf}
 use Rattle.set_bits.proofs.Combining.{or_false, here_stays}
 use Rattle.shape_encoder.specs.Reading.{IsBit}
-use Rattle.shape_encoder.specs.Comparing.{turned, turned_from, list_at, HoldsEdges, joins, IsJoinedSoFar}
+use Rattle.shape_encoder.specs.Comparing.{turned, turned_by, HoldsBy, joins, IsJoinedSoFar}
 use Rattle.shape_encoder.proofs.Steps.{all_item, take_item}
 
 -- ---- the edges of each slot
@@ -27,29 +27,29 @@ itself n = grind (arith, common_steps)
 others : (m n : ℕ) → (m ≡ n → ⊥) → (m == n) ≡ false
 others m n h = grind (arith, common_steps)
 
-one_more : (edges : List Edge) (e : Edge) (i : ℕ) → turned_from (edges ++ e ∷ []) i ≡ turned_from edges i ++ cond (e.from == i) (turned e ∷ []) []
-one_more edges e i =
-    ap (map turned) (filter-append (λ (x : Edge). x.from == i) edges (e ∷ [])) ∙ map-append turned (filter (λ (x : Edge). x.from == i) edges) (filter (λ (x : Edge). x.from == i) (e ∷ []))
-    ∙ ap (λ xs. turned_from edges i ++ xs) (by (e.from == i))
+one_more : (key : Edge → ℕ) (edges : List Edge) (e : Edge) (i : ℕ) → turned_by key (edges ++ e ∷ []) i ≡ turned_by key edges i ++ cond (key e == i) (turned e ∷ []) []
+one_more key edges e i =
+    ap (map turned) (filter-append (λ (x : Edge). key x == i) edges (e ∷ [])) ∙ map-append turned (filter (λ (x : Edge). key x == i) edges) (filter (λ (x : Edge). key x == i) (e ∷ []))
+    ∙ ap (λ xs. turned_by key edges i ++ xs) (by (key e == i))
   where
     by : (b : Bool) → map turned (cond b (e ∷ []) []) ≡ cond b (turned e ∷ []) []
     by true = refl
     by false = refl
 
-one_apart : (edges : List Edge) (e : Edge) (i : ℕ) → (e.from ≡ i → ⊥) → turned_from (edges ++ e ∷ []) i ≡ turned_from edges i
-one_apart edges e i h = one_more edges e i ∙ ap (λ b. turned_from edges i ++ cond b (turned e ∷ []) []) (others e.from i h) ∙ append-nil (turned_from edges i)
+one_apart : (key : Edge → ℕ) (edges : List Edge) (e : Edge) (i : ℕ) → (key e ≡ i → ⊥) → turned_by key (edges ++ e ∷ []) i ≡ turned_by key edges i
+one_apart key edges e i h = one_more key edges e i ∙ ap (λ b. turned_by key edges i ++ cond b (turned e ∷ []) []) (others (key e) i h) ∙ append-nil (turned_by key edges i)
 
--- one edge more, of a slot that the table has, and of another one
-pub added : (edges : List Edge) (e : Edge) (count : ℕ) (table : List (List Edge)) (list new : List Edge) → e.from < length table → list ≡ get_or table e.from [] → new ≡ list ++ turned e ∷ []
-    → HoldsEdges edges count table → HoldsEdges (edges ++ e ∷ []) count (set table e.from new)
-added edges e count table list new l was is h = record {
-  len = length-set table e.from new ∙ h.len;
-  at = λ i m. elim (cases_eq i e.from) [
+-- one edge more, with a number that the table has, and with another one
+pub added : (key : Edge → ℕ) (edges : List Edge) (e : Edge) (place count : ℕ) (table : List (List Edge)) (list new : List Edge) → key e ≡ place → place < length table → list ≡ get_or table place [] → new ≡ list ++ turned e ∷ []
+    → HoldsBy key edges count table → HoldsBy key (edges ++ e ∷ []) count (set table place new)
+added key edges e place count table list new k l was is h = record {
+  len = length-set table place new ∙ h.len;
+  at = λ i m. elim (cases_eq i place) [
     | inl same ↦
-        let mine : e.from < count = (let s = h.len in omega (arith, l, s)) in
-        ap (λ k. get_or (set table e.from new) k []) same ∙ get_or-set_same table e.from new [] l ∙ is ∙ ap (λ xs. xs ++ turned e ∷ []) (was ∙ h.at e.from mine)
-        ∙ sym (ap (turned_from (edges ++ e ∷ [])) same ∙ one_more edges e e.from ∙ ap (λ b. turned_from edges e.from ++ cond b (turned e ∷ []) []) (itself e.from))
-    | inr other ↦ get_or-set_other table e.from i new [] other ∙ h.at i m ∙ sym (one_apart edges e i (λ s. other (sym s)))
+        let mine : place < count = (let s = h.len in omega (arith, l, s)) in
+        ap (λ n. get_or (set table place new) n []) same ∙ get_or-set_same table place new [] l ∙ is ∙ ap (λ xs. xs ++ turned e ∷ []) (was ∙ h.at place mine)
+        ∙ sym (ap (turned_by key (edges ++ e ∷ [])) same ∙ one_more key edges e place ∙ ap (λ b. turned_by key edges place ++ cond b (turned e ∷ []) []) (ap (λ n. n == place) k ∙ itself place))
+    | inr other ↦ get_or-set_other table place i new [] other ∙ h.at i m ∙ sym (one_apart key edges e i (λ s. other (sym s ∙ k)))
   ];
 }
   where
@@ -58,16 +58,16 @@ added edges e count table list new l was is h = record {
     length-set (y ∷ ys) zero x = refl
     length-set (y ∷ ys) (suc k) x = ap suc (length-set ys k x)
 
-pub left_out : (edges : List Edge) (e : Edge) (count : ℕ) (table : List (List Edge)) → length table ≤ e.from → HoldsEdges edges count table → HoldsEdges (edges ++ e ∷ []) count table
-left_out edges e count table l h = record { len = h.len; at = λ i m. h.at i m ∙ sym (one_apart edges e i (λ s. let n = h.len in absurd (omega (arith, s, n, l, m)))) }
+pub left_out : (key : Edge → ℕ) (edges : List Edge) (e : Edge) (place count : ℕ) (table : List (List Edge)) → key e ≡ place → length table ≤ place → HoldsBy key edges count table → HoldsBy key (edges ++ e ∷ []) count table
+left_out key edges e place count table k l h = record { len = h.len; at = λ i m. h.at i m ∙ sym (one_apart key edges e i (λ s. let n = h.len in absurd (omega (arith, s, n, l, m, k)))) }
 
 pub ruleset adding = (added, left_out)
 
 abbrev nothing : List Edge
 nothing = []
 
-pub none_held : (count : ℕ) (table : List (List Edge)) → table ≡ replicate count [] → HoldsEdges [] count table
-none_held count table e = rw e (record { len = sized count; at = λ i l. empty count i })
+pub none_held : (key : Edge → ℕ) (count : ℕ) (table : List (List Edge)) → table ≡ replicate count [] → HoldsBy key [] count table
+none_held key count table e = rw e (record { len = sized count; at = λ i l. empty count i })
   where
     sized : (n : ℕ) → length (replicate n nothing) ≡ n
     sized zero = refl
@@ -78,11 +78,8 @@ none_held count table e = rw e (record { len = sized count; at = λ i l. empty c
     empty (suc n) zero = refl
     empty (suc n) (suc i) = empty n i
 
-pub held_more : (edges : List Edge) (at count : ℕ) (e : Edge) (table : List (List Edge)) → slice_get edges at ≡ Some e → HoldsEdges (take at edges ++ e ∷ []) count table → HoldsEdges (take (at + 1) edges) count table
-held_more edges at count e table get h = subst (λ xs. HoldsEdges xs count table) (sym (take_item edges at e get)) h
-
-pub all_held : (edges : List Edge) (at count : ℕ) (table : List (List Edge)) → length edges ≤ at → HoldsEdges (take at edges) count table → HoldsEdges edges count table
-all_held edges at count table l h = subst (λ xs. HoldsEdges xs count table) (take_all at edges l) h
+pub held_more : (key : Edge → ℕ) (edges : List Edge) (at count : ℕ) (e : Edge) (table : List (List Edge)) → slice_get edges at ≡ Some e → HoldsBy key (take at edges ++ e ∷ []) count table → HoldsBy key (take (at + 1) edges) count table
+held_more key edges at count e table get h = subst (λ xs. HoldsBy key xs count table) (sym (take_item edges at e get)) h
 
 -- ---- edges that join two slots
 

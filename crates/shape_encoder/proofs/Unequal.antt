@@ -1,5 +1,5 @@
 -- Integers that are compared with each other, one after another.
-use Rattle.std.proofs.Common.{◌≡◌, ℕ, zero, suc, ◌+◌, ◌*◌, ◌<◌, ◌≤◌, Bool, true, false, cond, not, ◌&&◌, ◌||◌, List, [], ◌∷◌, ◌++◌, length, map, take, get_or, max, Option, Some, None, refl, sym, ap, ◌∙◌, subst, arith}
+use Rattle.std.proofs.Common.{◌≡◌, ℕ, zero, suc, ◌+◌, ◌*◌, ◌<◌, ◌≤◌, Bool, true, false, cond, not, ◌&&◌, ◌||◌, List, [], ◌∷◌, length, take, Option, Some, None, refl, sym, ap, ◌∙◌, arith}
 use Rattle.std.specs.Prelude.{slice_get, ◌==◌, is_some, is_none, ℤ, IsTrue, ◌↔◌}
 use Rattle.std.specs.Ordering.{int_eq}
 use Rattle.std.specs.Option.{option_map_or}
@@ -12,7 +12,6 @@ use Rattle.std.proofs.lemmas.List.Sums.{sum_by-cons}
 use Rattle.bool_circuit.specs.declared.gate.Wire.{Wire}
 use Rattle.bool_circuit.specs.declared.gate.Gate.{Gate}
 use Rattle.bool_circuit.specs.Circuit.{wire_value, entry, IsWireOf, AreWiresOf, Extends}
-use Rattle.bool_circuit.proofs.Extending.{extends_trans, extends_within}
 use Rattle.integer_bits.specs.Numbers.{integer_of, integer_at}
 use Rattle.clf_tree.specs.declared.model.Clafer.{Clafer}
 use Rattle.clf_tree.specs.declared.instance.Node.{Node}
@@ -27,8 +26,8 @@ use Rattle.shown_instance.specs.Shown.{is_live}
 use Rattle.shown_instance.specs.Distinct.{lead_together, tells_apart, targets_differ, integers_differ, have_sets}
 use Rattle.shown_instance.proofs.Placing.{same_truth}
 use Rattle.shape_encoder.specs.Reading.{IsBit, IsSlotOf}
-use Rattle.shape_encoder.specs.Comparing.{turned_from, HoldsEdges, joins, IsTiedBy, DifferSoFar, is_on, are_equal, IntegerDiffersSoFar, IntegersDifferSoFar, equal_cost, integer_pair_cost, integer_pairs_cost, own_value_cost, value_cost, values_cost}
-use Rattle.shape_encoder.proofs.Steps.{and_true, all_item, take_item, list_all-push, sum-push, sum-room, bits_stay, bit_wires, bit_values}
+use Rattle.shape_encoder.specs.Comparing.{turned_from, joins, IsTiedBy, DifferSoFar, is_on, are_equal, IntegerDiffersSoFar, IntegersDifferSoFar, equal_cost, integer_pair_cost, integer_pairs_cost, own_value_cost, value_cost, values_cost}
+use Rattle.shape_encoder.proofs.Steps.{and_true, all_item, take_item, list_all-push, sum-push, bits_stay, bit_wires, bit_values}
 use Rattle.shape_encoder.proofs.Taken.{each_two-push}
 use Rattle.shape_encoder.proofs.Compared.{cost_step, joined_together, clafer_at, sum_below-push, sum_below-room}
 
@@ -189,10 +188,10 @@ values_room clafers layout n w get =
     let e = value_cost_is clafers layout n w get in
     omega (arith, r, e)
 
-pub whole_sets : (old first second new : List Gate) (clafers : List Clafer) (layout : Layout) (m n : ℕ) (nodes integers wire : Wire) → DifferSoFar old clafers layout (length layout.slots) m first nodes → IntegersDifferSoFar first clafers layout (length layout.values) n second integers
-    → ((bits : List Bool) → wire_value new wire bits ≡ (wire_value second nodes bits && wire_value second integers bits)) → (bits : List Bool) → wire_value new wire bits ≡ have_sets clafers layout bits
-whole_sets old first second new clafers layout m n nodes integers wire d e v bits =
-    v bits ∙ ap (λ b. b && wire_value second integers bits) (e.extends.keeps nodes d.is_wire bits ∙ d.value bits)
+pub whole_sets : (first second new : List Gate) (clafers : List Clafer) (layout : Layout) (n : ℕ) (nodes integers wire : Wire) → IsWireOf first nodes → ((bits : List Bool) → wire_value first nodes bits ≡ each_two (targets_differ clafers layout bits) (numbers_below (length layout.slots)))
+    → IntegersDifferSoFar first clafers layout (length layout.values) n second integers → ((bits : List Bool) → wire_value new wire bits ≡ (wire_value second nodes bits && wire_value second integers bits)) → (bits : List Bool) → wire_value new wire bits ≡ have_sets clafers layout bits
+whole_sets first second new clafers layout n nodes integers wire w d e v bits =
+    v bits ∙ ap (λ b. b && wire_value second integers bits) (e.extends.keeps nodes w bits ∙ d bits)
     ∙ ap (λ b. each_two (targets_differ clafers layout bits) (numbers_below (length layout.slots)) && b) (e.value bits ∙ ap (each_two (integers_differ clafers layout bits)) (take_all (length layout.values) layout.values (omega arith)))
 
 -- the premises of each integer

@@ -1,12 +1,13 @@
 -- How far slots are compared with each other.
-use Rattle.std.specs.Prelude.{◌≡◌, ◌+◌, ◌*◌, ◌<◌, ℕ, Bool, ◌&&◌, ◌||◌, ◌==◌, not, List, [], length, map, Option, if◌then◌else◌, slice_index_or, slice_get, take, is_none, true, false, max}
+use Rattle.std.specs.Prelude.{◌≡◌, ◌+◌, ◌*◌, ◌<◌, ℕ, Bool, ◌&&◌, ◌||◌, ◌==◌, List, [], length, map, Option, if◌then◌else◌, slice_index_or, slice_get, take, is_none, is_some, nat_lt, not, true, false, max}
 use Rattle.std.specs.Option.{option_map_or}
-use Rattle.std.specs.List.{filter, list_all, list_any, sum_by}
+use Rattle.std.specs.List.{All, filter, list_all, list_any, sum_by}
 use Rattle.bool_circuit.specs.declared.gate.Wire.{Wire}
 use Rattle.bool_circuit.specs.declared.gate.Gate.{Gate}
 use Rattle.bool_circuit.specs.Circuit.{wire_value, entry, IsWireOf, Extends}
 use Rattle.clf_tree.specs.declared.model.Clafer.{Clafer}
 use Rattle.clf_tree.specs.Lists.{numbers_below, each_two}
+use Rattle.clf_tree.specs.Hierarchy.{parent_of}
 use Rattle.set_bits.specs.declared.layout.Edge.{Edge}
 use Rattle.set_bits.specs.declared.layout.SlotBits.{SlotBits}
 use Rattle.set_bits.specs.declared.layout.Layout.{Layout}
@@ -17,7 +18,8 @@ use Rattle.set_bits.specs.Fitting.{slot_clafer}
 use Rattle.set_bits.specs.Sets.{is_here}
 use Rattle.set_bits.specs.Reaching.{wire_at}
 use Rattle.set_bits.specs.Reaching.{IsTableOf}
-use Rattle.shown_instance.specs.Distinct.{leads_there, allows_two, tells_apart, targets_differ, integers_differ}
+use Rattle.shown_instance.specs.Consistent.{are_single}
+use Rattle.shown_instance.specs.Distinct.{leads_there, lead_together, allows_two, tells_apart, targets_differ, integers_differ}
 
 -- whether two instances of a clafer can have one parent, or none
 abbrev pub may_be_two : List Clafer → ℕ → Bool
@@ -27,17 +29,58 @@ may_be_two clafers c = option_map_or (λ k. is_none k.parent || allows_two k.tim
 abbrev pub turned : Edge → Edge
 turned e = record { from = e.to; to = e.from; here = e.here }
 
--- the edges of a slot, turned round
+-- the edges with a number, turned round, and those of a slot
+abbrev pub turned_by : (Edge → ℕ) → List Edge → ℕ → List Edge
+turned_by key edges i = map turned (filter (λ e. key e == i) edges)
+
 abbrev pub turned_from : List Edge → ℕ → List Edge
-turned_from edges i = map turned (filter (λ e. e.from == i) edges)
+turned_from edges i = turned_by (λ e. e.from) edges i
 
 abbrev pub list_at : List (List Edge) → ℕ → List Edge
 list_at table i = slice_index_or table i []
 
--- at each of the first slots its edges, turned round
-pub record HoldsEdges (edges : List Edge) (count : ℕ) (table : List (List Edge)) : Type 0 where
+-- at each of the first numbers the edges that have it, turned round
+pub record HoldsBy (key : Edge → ℕ) (edges : List Edge) (count : ℕ) (table : List (List Edge)) : Type 0 where
   pub len : length table ≡ count
-  pub at : (i : ℕ) → i < count → list_at table i ≡ turned_from edges i
+  pub at : (i : ℕ) → i < count → list_at table i ≡ turned_by key edges i
+
+-- at each of the first slots its edges
+abbrev pub HoldsEdges : List Edge → ℕ → List (List Edge) → Type 0
+HoldsEdges edges count table = HoldsBy (λ e. e.from) edges count table
+
+-- the clafer of the slot from which an edge leads
+abbrev pub clafer_from : Layout → Edge → ℕ
+clafer_from layout e = slot_clafer layout.slots e.from
+
+-- whether a clafer stands at top level and has to have different targets
+abbrev pub is_counted : List Clafer → ℕ → Bool
+is_counted clafers c = tells_apart clafers c && is_none (parent_of clafers c)
+
+-- whether no two edges of such a clafer are taken that lead to one slot
+abbrev pub is_single_at : List Clafer → Layout → List Bool → ℕ → Bool
+is_single_at clafers layout bits c = not (is_counted clafers c) || are_single (turned_by (clafer_from layout) layout.targets c) bits
+
+-- whether a nested clafer has to have different targets below a parent
+abbrev pub is_paired : List Clafer → ℕ → Bool
+is_paired clafers c = tells_apart clafers c && is_some (parent_of clafers c)
+
+-- whether two slots have different targets, if they are of a nested clafer
+abbrev pub nested_differ : List Clafer → Layout → List Bool → ℕ → ℕ → Bool
+nested_differ clafers layout bits i j = not (is_some (parent_of clafers (slot_clafer layout.slots i))) || targets_differ clafers layout bits i j
+
+-- whether two slots of one clafer have one parent and one target
+abbrev pub are_twins : Layout → List Bool → ℕ → ℕ → Bool
+are_twins layout bits i j = (slot_clafer layout.slots i == slot_clafer layout.slots j) && (lead_together layout.parents bits i j && lead_together layout.targets bits i j)
+
+-- one edge before another: by the slot from which they lead, then by the other
+abbrev pub leads_before : Edge → Edge → Bool
+leads_before x y = nat_lt x.from y.from || ((x.from == y.from) && nat_lt x.to y.to)
+
+-- the target edges lead from slots, in the order of their ends, and slots are of clafers of the model
+pub record IsOrdered (clafers : List Clafer) (layout : Layout) : Type 0 where
+  pub from : All (λ e. e.from < length layout.slots) layout.targets
+  pub ascending : each_two leads_before layout.targets ≡ true
+  pub known : (i : ℕ) → i < length layout.slots → slot_clafer layout.slots i < length clafers
 
 -- whether an edge is taken that leads from a slot whose wire is true
 abbrev pub joins : List Gate → List (Option Wire) → List Bool → Edge → Bool
@@ -54,17 +97,23 @@ pub record IsTiedBy (gates : List Gate) (edges : List Edge) (slot : ℕ) (table 
   pub wires : IsTableOf gates table
   pub leads : (bits : List Bool) (k : ℕ) → is_here gates (wire_at table k) bits ≡ leads_there edges bits slot k
 
--- a wire that is true where a slot differs from the first n ones
-pub record DiffersSoFar (old : List Gate) (clafers : List Clafer) (layout : Layout) (slot n : ℕ) (cost : ℕ) (new : List Gate) (wire : Wire) : Type 0 where
+-- a wire that is true where a slot has no twin among the first n ones
+pub record HasNoTwinSoFar (old : List Gate) (layout : Layout) (slot n : ℕ) (cost : ℕ) (new : List Gate) (wire : Wire) : Type 0 where
   pub extends : Extends old new cost
   pub is_wire : IsWireOf new wire
-  pub value : (bits : List Bool) → wire_value new wire bits ≡ list_all (λ j. targets_differ clafers layout bits j slot) (numbers_below n)
+  pub value : (bits : List Bool) → wire_value new wire bits ≡ list_all (λ j. not (are_twins layout bits j slot)) (numbers_below n)
 
--- a wire that is true where the first n slots differ from each other
+-- a wire that is true where the first n slots of nested clafers differ from each other
 pub record DifferSoFar (old : List Gate) (clafers : List Clafer) (layout : Layout) (n : ℕ) (cost : ℕ) (new : List Gate) (wire : Wire) : Type 0 where
   pub extends : Extends old new cost
   pub is_wire : IsWireOf new wire
-  pub value : (bits : List Bool) → wire_value new wire bits ≡ each_two (targets_differ clafers layout bits) (numbers_below n)
+  pub value : (bits : List Bool) → wire_value new wire bits ≡ each_two (nested_differ clafers layout bits) (numbers_below n)
+
+-- a wire that is true where no two edges of one of the first n clafers, if it has to differ at top level, lead to one slot
+pub record AreSingleSoFar (old : List Gate) (clafers : List Clafer) (layout : Layout) (n : ℕ) (cost : ℕ) (new : List Gate) (wire : Wire) : Type 0 where
+  pub extends : Extends old new cost
+  pub is_wire : IsWireOf new wire
+  pub value : (bits : List Bool) → wire_value new wire bits ≡ list_all (is_single_at clafers layout bits) (numbers_below n)
 
 -- ---- how many wires the rules add
 
@@ -78,7 +127,7 @@ pairs_cost layout i n = sum_by (λ j. pair_cost layout j i) (numbers_below n)
 
 abbrev pub slot_cost : List Clafer → Layout → ℕ → ℕ
 slot_cost clafers layout i =
-    if tells_apart clafers (slot_clafer layout.slots i)
+    if is_paired clafers (slot_clafer layout.slots i)
     then ((4 * length (turned_from layout.parents i) + 1) + (4 * length (turned_from layout.targets i) + 1)) + (pairs_cost layout i i + 1) + 1 else 0
 
 abbrev pub slots_cost : List Clafer → Layout → ℕ → ℕ
@@ -86,6 +135,13 @@ slots_cost clafers layout n = sum_by (slot_cost clafers layout) (numbers_below n
 
 abbrev pub targets_cost : List Clafer → Layout → ℕ
 targets_cost clafers layout = slots_cost clafers layout (length layout.slots) + 1
+
+-- for the edges of a clafer
+abbrev pub single_cost : List Clafer → Layout → ℕ → ℕ
+single_cost clafers layout c = if is_counted clafers c then 4 * length (turned_by (clafer_from layout) layout.targets c) + 2 else 0
+
+abbrev pub singles_cost : List Clafer → Layout → ℕ → ℕ
+singles_cost clafers layout n = sum_by (single_cost clafers layout) (numbers_below n)
 
 -- ---- integers
 
@@ -128,4 +184,4 @@ abbrev pub values_cost : List Clafer → Layout → ℕ → ℕ
 values_cost clafers layout n = sum_by (value_cost clafers layout) (numbers_below n)
 
 abbrev pub sets_cost : List Clafer → Layout → ℕ
-sets_cost clafers layout = targets_cost clafers layout + (values_cost clafers layout (length layout.values) + 1) + 1
+sets_cost clafers layout = targets_cost clafers layout + (singles_cost clafers layout (length clafers) + 1) + (values_cost clafers layout (length layout.values) + 1) + 2

@@ -19,4 +19,4 @@ pub use bounds::have_bounds;
 pub use consistency::consistent;
 pub use laws::layouts_that_fit_are_laid;
 pub use placement::{have_parents, have_targets};
-pub use sets::have_sets;
+pub use sets::{have_sets, layouts_that_fit_are_ordered};

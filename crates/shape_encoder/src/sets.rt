@@ -1,6 +1,6 @@
 //! Whether nodes have different targets where references are of set kind.
 
-ghost use Rattle.std.specs.Prelude.{◌≡◌, ◌++◌, ◌∷◌, [], ℕ, ◌+◌, ◌*◌, ◌<◌, ◌≤◌, Bool, not, ◌||◌, ◌&&◌, length, replicate, take, vec_len, is_some, IsTrue, IfOk, IfSome, OnOk, All, List as Items};
+ghost use Rattle.std.specs.Prelude.{◌≡◌, ◌++◌, ◌∷◌, [], ℕ, ◌+◌, ◌*◌, ◌^◌, ◌<◌, ◌≤◌, Bool, not, ◌||◌, ◌&&◌, length, replicate, take, vec_len, is_some, IsTrue, IfOk, IfSome, OnOk, All, List as Items};
 ghost use Rattle.std.specs.List.{list_all, list_any};
 ghost use Rattle.bool_circuit.specs.Circuit.{wire_value, IsWireOf, Extends};
 ghost use Rattle.bool_circuit.specs.declared.circuit.TheConstants.{MOST_WIRES};
@@ -8,13 +8,17 @@ ghost use Rattle.set_bits.specs.declared.layout.Edge.{Edge as AnEdge};
 ghost use Rattle.set_bits.specs.Sets.{is_here};
 ghost use Rattle.set_bits.specs.Reaching.{IsTableOf};
 ghost use Rattle.shape_encoder.specs.Reading.{IsBit, IsLaid, IsSlotOf};
+ghost use Rattle.clf_tree.specs.declared.model.Clafer.{Clafer as AClafer};
+ghost use Rattle.clf_tree.specs.declared.scopes.Scopes.{Scopes};
+ghost use Rattle.set_bits.specs.declared.layout.Layout.{Layout as ALayout};
 ghost use Rattle.clf_tree.specs.Shape.{is_set};
 ghost use Rattle.clf_tree.specs.Hierarchy.{parent_of};
 ghost use Rattle.clf_tree.specs.declared.module.Interval.{Interval as AnInterval};
-ghost use Rattle.set_bits.specs.Fitting.{slot_clafer};
+ghost use Rattle.set_bits.specs.Fitting.{Fits, slot_clafer};
 ghost use Rattle.shown_instance.specs.Distinct.{allows_two, tells_apart, targets_differ, integers_differ, have_sets};
-ghost use Rattle.clf_tree.specs.Lists.{numbers_below};
-ghost use Rattle.shape_encoder.specs.Comparing.{may_be_two, HoldsEdges, IsJoinedSoFar, joins, turned_from, IsTiedBy, DiffersSoFar, DifferSoFar, pair_cost, pairs_cost, slot_cost, targets_cost, are_equal, equal_cost, integer_pair_cost, integer_pairs_cost, own_value_cost, values_cost, sets_cost, IntegerDiffersSoFar, IntegersDifferSoFar};
+ghost use Rattle.clf_tree.specs.Lists.{numbers_below, each_two};
+ghost use Rattle.shown_instance.specs.Consistent.{are_single};
+ghost use Rattle.shape_encoder.specs.Comparing.{may_be_two, HoldsBy, HoldsEdges, clafer_from, is_counted, is_paired, is_single_at, nested_differ, are_twins, IsOrdered, IsJoinedSoFar, joins, turned_by, turned_from, IsTiedBy, HasNoTwinSoFar, DifferSoFar, AreSingleSoFar, pair_cost, pairs_cost, slot_cost, targets_cost, single_cost, singles_cost, are_equal, equal_cost, integer_pair_cost, integer_pairs_cost, own_value_cost, values_cost, sets_cost, IntegerDiffersSoFar, IntegersDifferSoFar};
 
 use crate::placement::parent_of;
 use crate::taking::{take_edges, wire_of};
@@ -36,19 +40,18 @@ fn empty_lists(alloc: Global, count: usize) -> Result<Vec<List<Edge>>, NoMemory>
     Ok(lists)
 }
 
-// Adds an edge, turned round, to those of its slot.
+// Adds an edge, turned round, to those at a place.
 #[tactic(auto, using(crate::proofs::Turning::adding))]
-fn add_edge(table: &mut Vec<List<Edge>>, edge: Edge) -> Result<(), NoMemory>
-    ensures { OnOk result ((edges : Items AnEdge) (count : ℕ) → HoldsEdges edges count table.old.items → HoldsEdges (edges ++ edge ∷ []) count table.new.items) }
+fn add_edge(table: &mut Vec<List<Edge>>, place: usize, edge: Edge) -> Result<(), NoMemory>
+    ensures { OnOk result ((key : AnEdge → ℕ) (edges : Items AnEdge) (count : ℕ) → key edge ≡ place → HoldsBy key edges count table.old.items → HoldsBy key (edges ++ edge ∷ []) count table.new.items) }
 {
-    let from = edge.from as usize;
-    if from < table.len() {
+    if place < table.len() {
         let turned = Edge {
             from: edge.to,
             to: edge.from,
             here: edge.here,
         };
-        table[from].push(turned)?;
+        table[place].push(turned)?;
     }
     Ok(())
 }
@@ -64,7 +67,25 @@ fn edges_of_slots(
     let mut table = empty_lists(alloc, count)?;
     for at in 0..edges.len() {
         let edge = *edges.get(at);
-        add_edge(&mut table, edge)?;
+        add_edge(&mut table, edge.from as usize, edge)?;
+    }
+    Ok(table)
+}
+
+// The target edges of each of the first clafers, turned round.
+fn edges_of_clafers(
+    alloc: Global,
+    layout: &Layout,
+    count: usize,
+) -> Result<Vec<List<Edge>>, NoMemory>
+    requires from { All (λ e. e.from < length layout.now.slots) layout.now.targets }
+    ensures { IfOk result (λ table. HoldsBy (clafer_from layout.now) layout.now.targets count table.items) }
+{
+    let mut table = empty_lists(alloc, count)?;
+    for at in 0..layout.targets.len() {
+        let edge = *layout.targets.get(at);
+        let clafer = layout.slots.get(edge.from as usize).clafer;
+        add_edge(&mut table, clafer as usize, edge)?;
     }
     Ok(table)
 }
@@ -141,10 +162,9 @@ fn are_beside(
     Ok(beside)
 }
 
-// Whether two slots of a clafer have different targets, or different parents.
-fn have_two_targets(
+// Whether two slots have different parents, or different targets.
+fn are_apart(
     circuit: &mut Circuit,
-    is_nested: bool,
     later: &Tied,
     parents: &List<Edge>,
     targets: &List<Edge>,
@@ -155,20 +175,19 @@ fn have_two_targets(
     requires target_bits { All (λ e. IsBit circuit.old e.here) targets.now }
     requires room { length circuit.old + (2 * length parents.now + 2 * length targets.now + 4) ≤ MOST_WIRES }
     ensures wire { IfOk result (IsWireOf circuit.new) }
-    ensures value { IfOk result (λ w. (bits : Items Bool) → wire_value circuit.new w bits ≡ not ((not is_nested || list_any (joins circuit.old later.now.parents.items bits) parents.now) && list_any (joins circuit.old later.now.targets.items bits) targets.now)) }
+    ensures value { IfOk result (λ w. (bits : Items Bool) → wire_value circuit.new w bits ≡ not (list_any (joins circuit.old later.now.parents.items bits) parents.now && list_any (joins circuit.old later.now.targets.items bits) targets.now)) }
     ensures extends { Extends circuit.old circuit.new (2 * length parents.now + 2 * length targets.now + 4) }
 {
-    let beside = are_beside(circuit, is_nested, &later.parents, parents)?;
+    let beside = join(circuit, &later.parents, parents)?;
     let together = join(circuit, &later.targets, targets)?;
     let same = circuit.and(beside, together)?;
-    let differ = circuit.not(same)?;
-    Ok(differ)
+    let apart = circuit.not(same)?;
+    Ok(apart)
 }
 
-// True where `all` is and two slots of a clafer have different targets, or different parents.
-fn and_two_targets(
+// True where `all` is and two slots have different parents, or different targets.
+fn and_apart(
     circuit: &mut Circuit,
-    is_nested: bool,
     later: &Tied,
     parents: &List<Edge>,
     targets: &List<Edge>,
@@ -181,18 +200,17 @@ fn and_two_targets(
     requires all_in { IsWireOf circuit.old all }
     requires room { length circuit.old + (2 * length parents.now + 2 * length targets.now + 5) ≤ MOST_WIRES }
     ensures wire { IfOk result (IsWireOf circuit.new) }
-    ensures value { IfOk result (λ w. (bits : Items Bool) → wire_value circuit.new w bits ≡ (wire_value circuit.old all bits && not ((not is_nested || list_any (joins circuit.old later.now.parents.items bits) parents.now) && list_any (joins circuit.old later.now.targets.items bits) targets.now))) }
+    ensures value { IfOk result (λ w. (bits : Items Bool) → wire_value circuit.new w bits ≡ (wire_value circuit.old all bits && not (list_any (joins circuit.old later.now.parents.items bits) parents.now && list_any (joins circuit.old later.now.targets.items bits) targets.now))) }
     ensures extends { Extends circuit.old circuit.new (2 * length parents.now + 2 * length targets.now + 5) }
 {
-    let differ = have_two_targets(circuit, is_nested, later, parents, targets)?;
-    let right = circuit.and(all, differ)?;
+    let apart = are_apart(circuit, later, parents, targets)?;
+    let right = circuit.and(all, apart)?;
     Ok(right)
 }
 
-// True where `all` is and a slot has another target than an earlier one, if both are of one clafer.
-fn and_differs(
+// True where `all` is and two slots, if they are of one clafer, have different parents or different targets.
+fn and_no_twin(
     circuit: &mut Circuit,
-    clafers: &List<Clafer>,
     layout: &Layout,
     ties: &Ties,
     later: &Tied,
@@ -200,7 +218,6 @@ fn and_differs(
     earlier: usize,
     all: Wire,
 ) -> Result<Wire, NoMemory>
-    requires told { IsTrue (tells_apart clafers.now (slot_clafer layout.now.slots slot)) }
     requires slot_in { slot < length layout.now.slots }
     requires earlier_in { earlier < slot }
     requires parents { HoldsEdges layout.now.parents (length layout.now.slots) ties.now.parents.items }
@@ -212,30 +229,26 @@ fn and_differs(
     requires all_in { IsWireOf circuit.old all }
     requires room { length circuit.old + pair_cost layout.now earlier slot ≤ MOST_WIRES }
     ensures wire { IfOk result (IsWireOf circuit.new) }
-    ensures value { IfOk result (λ w. (bits : Items Bool) → wire_value circuit.new w bits ≡ (wire_value circuit.old all bits && targets_differ clafers.now layout.now bits earlier slot)) }
+    ensures value { IfOk result (λ w. (bits : Items Bool) → wire_value circuit.new w bits ≡ (wire_value circuit.old all bits && not (are_twins layout.now bits earlier slot))) }
     ensures extends { Extends circuit.old circuit.new (pair_cost layout.now earlier slot) }
 {
-    let clafer = layout.slots.get(slot).clafer;
-    if layout.slots.get(earlier).clafer != clafer {
+    if layout.slots.get(earlier).clafer != layout.slots.get(slot).clafer {
         return Ok(all);
     }
-    let is_nested = parent_of(clafers, clafer).is_some();
     let parents = &ties.parents[earlier];
     let targets = &ties.targets[earlier];
-    let right = and_two_targets(circuit, is_nested, later, parents, targets, all)?;
+    let right = and_apart(circuit, later, parents, targets, all)?;
     Ok(right)
 }
 
-// Whether a slot has another target than the earlier ones of its clafer.
-fn differs_from_earlier(
+// Whether no earlier slot of a slot's clafer has its parent and its target.
+fn has_no_twin(
     circuit: &mut Circuit,
-    clafers: &List<Clafer>,
     layout: &Layout,
     ties: &Ties,
     later: &Tied,
     slot: usize,
 ) -> Result<Wire, NoMemory>
-    requires told { IsTrue (tells_apart clafers.now (slot_clafer layout.now.slots slot)) }
     requires slot_in { slot < length layout.now.slots }
     requires parents { HoldsEdges layout.now.parents (length layout.now.slots) ties.now.parents.items }
     requires targets { HoldsEdges layout.now.targets (length layout.now.slots) ties.now.targets.items }
@@ -244,12 +257,12 @@ fn differs_from_earlier(
     requires parents_by { IsTiedBy circuit.old layout.now.parents slot later.now.parents.items }
     requires targets_by { IsTiedBy circuit.old layout.now.targets slot later.now.targets.items }
     requires room { length circuit.old + (pairs_cost layout.now slot slot + 1) ≤ MOST_WIRES }
-    ensures differs { IfOk result (DiffersSoFar circuit.old clafers.now layout.now slot slot (pairs_cost layout.now slot slot + 1) circuit.new) }
+    ensures alone { IfOk result (HasNoTwinSoFar circuit.old layout.now slot slot (pairs_cost layout.now slot slot + 1) circuit.new) }
     ensures extends { Extends circuit.old circuit.new (pairs_cost layout.now slot slot + 1) }
 {
     let mut all = circuit.constant(true)?;
     for earlier in 0..slot {
-        all = and_differs(circuit, clafers, layout, ties, later, slot, earlier, all)?;
+        all = and_no_twin(circuit, layout, ties, later, slot, earlier, all)?;
     }
     Ok(all)
 }
@@ -294,6 +307,26 @@ fn tells_apart(clafers: &List<Clafer>, clafer: u32) -> bool
     may_be_two(clafers, clafer)
 }
 
+// Whether a nested clafer has to have different targets below a parent.
+fn is_paired(clafers: &List<Clafer>, clafer: u32) -> bool
+    ensures { result ≡ is_paired clafers.now clafer }
+{
+    if !tells_apart(clafers, clafer) {
+        return false;
+    }
+    parent_of(clafers, clafer).is_some()
+}
+
+// Whether a clafer stands at top level and has to have different targets.
+fn is_counted(clafers: &List<Clafer>, clafer: u32) -> bool
+    ensures { result ≡ is_counted clafers.now clafer }
+{
+    if !tells_apart(clafers, clafer) {
+        return false;
+    }
+    parent_of(clafers, clafer).is_none()
+}
+
 // The wires of the slots to which a slot can be tied.
 fn tie(
     alloc: Global,
@@ -331,11 +364,10 @@ fn tie_slot(
     })
 }
 
-// True where `all` is and a slot that has to has another target than the earlier ones of its clafer.
-fn and_compared(
+// True where `all` is and no earlier slot of a slot's clafer has its parent and its target.
+fn and_alone(
     alloc: Global,
     circuit: &mut Circuit,
-    clafers: &List<Clafer>,
     layout: &Layout,
     ties: &Ties,
     parents: &List<Edge>,
@@ -343,7 +375,6 @@ fn and_compared(
     slot: usize,
     all: Wire,
 ) -> Result<Wire, NoMemory>
-    requires told { IsTrue (tells_apart clafers.now (slot_clafer layout.now.slots slot)) }
     requires slot_in { slot < length layout.now.slots }
     requires parents_are { parents.now ≡ turned_from layout.now.parents slot }
     requires targets_are { targets.now ≡ turned_from layout.now.targets slot }
@@ -354,16 +385,16 @@ fn and_compared(
     requires all_in { IsWireOf circuit.old all }
     requires room { length circuit.old + (((4 * length parents.now + 1) + (4 * length targets.now + 1)) + (pairs_cost layout.now slot slot + 1) + 1) ≤ MOST_WIRES }
     ensures wire { IfOk result (IsWireOf circuit.new) }
-    ensures value { IfOk result (λ w. (bits : Items Bool) → wire_value circuit.new w bits ≡ (wire_value circuit.old all bits && list_all (λ j. targets_differ clafers.now layout.now bits j slot) (numbers_below slot))) }
+    ensures value { IfOk result (λ w. (bits : Items Bool) → wire_value circuit.new w bits ≡ (wire_value circuit.old all bits && list_all (λ j. not (are_twins layout.now bits j slot)) (numbers_below slot))) }
     ensures extends { Extends circuit.old circuit.new (((4 * length parents.now + 1) + (4 * length targets.now + 1)) + (pairs_cost layout.now slot slot + 1) + 1) }
 {
     let later = tie_slot(alloc, circuit, parents, targets)?;
-    let differ = differs_from_earlier(circuit, clafers, layout, ties, &later, slot)?;
-    let right = circuit.and(all, differ)?;
+    let alone = has_no_twin(circuit, layout, ties, &later, slot)?;
+    let right = circuit.and(all, alone)?;
     Ok(right)
 }
 
-// True where `all` is and a slot has another target than the earlier ones of its clafer, if it has to.
+// True where `all` is and a slot has another target than the earlier ones of its clafer, if this is nested and has to.
 fn and_slot(
     alloc: Global,
     circuit: &mut Circuit,
@@ -381,23 +412,21 @@ fn and_slot(
     requires all_in { IsWireOf circuit.old all }
     requires room { length circuit.old + slot_cost clafers.now layout.now slot ≤ MOST_WIRES }
     ensures wire { IfOk result (IsWireOf circuit.new) }
-    ensures value { IfOk result (λ w. (bits : Items Bool) → wire_value circuit.new w bits ≡ (wire_value circuit.old all bits && list_all (λ j. targets_differ clafers.now layout.now bits j slot) (numbers_below slot))) }
+    ensures value { IfOk result (λ w. (bits : Items Bool) → wire_value circuit.new w bits ≡ (wire_value circuit.old all bits && list_all (λ j. nested_differ clafers.now layout.now bits j slot) (numbers_below slot))) }
     ensures extends { Extends circuit.old circuit.new (slot_cost clafers.now layout.now slot) }
 {
     let clafer = layout.slots.get(slot).clafer;
-    if !tells_apart(clafers, clafer) {
+    if !is_paired(clafers, clafer) {
         return Ok(all);
     }
     let parents = &ties.parents[slot];
     let targets = &ties.targets[slot];
-    let right = and_compared(
-        alloc, circuit, clafers, layout, ties, parents, targets, slot, all,
-    )?;
+    let right = and_alone(alloc, circuit, layout, ties, parents, targets, slot, all)?;
     Ok(right)
 }
 
-// Whether no two slots of one clafer have one target where its reference is of set kind.
-fn differ(
+// Whether no two slots of one nested clafer have one parent and one target where the reference is of set kind.
+fn nested_differ(
     alloc: Global,
     circuit: &mut Circuit,
     clafers: &List<Clafer>,
@@ -417,6 +446,100 @@ fn differ(
         all = and_slot(alloc, circuit, clafers, layout, ties, slot, all)?;
     }
     Ok(all)
+}
+
+// True where `all` is and no two of the edges are taken that lead from one slot.
+fn and_single(
+    alloc: Global,
+    circuit: &mut Circuit,
+    edges: &List<Edge>,
+    all: Wire,
+) -> Result<Wire, NoMemory>
+    requires bits { All (λ e. IsBit circuit.old e.here) edges.now }
+    requires all_in { IsWireOf circuit.old all }
+    requires room { length circuit.old + (4 * length edges.now + 2) ≤ MOST_WIRES }
+    ensures wire { IfOk result (IsWireOf circuit.new) }
+    ensures value { IfOk result (λ w. (bits : Items Bool) → wire_value circuit.new w bits ≡ (wire_value circuit.old all bits && are_single edges.now bits)) }
+    ensures extends { Extends circuit.old circuit.new (4 * length edges.now + 2) }
+{
+    let taken = take_edges(alloc, circuit, edges)?;
+    let single = taken.single;
+    let right = circuit.and(all, single)?;
+    Ok(right)
+}
+
+// True where `all` is and no two slots of a clafer have one target, if this stands at top level and has to.
+fn and_clafer(
+    alloc: Global,
+    circuit: &mut Circuit,
+    clafers: &List<Clafer>,
+    layout: &Layout,
+    edges: &List<Edge>,
+    clafer: u32,
+    all: Wire,
+) -> Result<Wire, NoMemory>
+    requires edges_are { edges.now ≡ turned_by (clafer_from layout.now) layout.now.targets clafer }
+    requires target_bits { All (λ e. IsBit circuit.old e.here) layout.now.targets }
+    requires all_in { IsWireOf circuit.old all }
+    requires room { length circuit.old + single_cost clafers.now layout.now clafer ≤ MOST_WIRES }
+    ensures wire { IfOk result (IsWireOf circuit.new) }
+    ensures value { IfOk result (λ w. (bits : Items Bool) → wire_value circuit.new w bits ≡ (wire_value circuit.old all bits && is_single_at clafers.now layout.now bits clafer)) }
+    ensures extends { Extends circuit.old circuit.new (single_cost clafers.now layout.now clafer) }
+{
+    if !is_counted(clafers, clafer) {
+        return Ok(all);
+    }
+    let right = and_single(alloc, circuit, edges, all)?;
+    Ok(right)
+}
+
+// Whether no two slots of one top-level clafer have one target where its reference is of set kind.
+fn are_single(
+    alloc: Global,
+    circuit: &mut Circuit,
+    clafers: &List<Clafer>,
+    layout: &Layout,
+    table: &Vec<List<Edge>>,
+) -> Result<Wire, NoMemory>
+    requires few { length clafers.now < 2 ^ 32 }
+    requires table { HoldsBy (clafer_from layout.now) layout.now.targets (length clafers.now) table.now.items }
+    requires target_bits { All (λ e. IsBit circuit.old e.here) layout.now.targets }
+    requires room { length circuit.old + (singles_cost clafers.now layout.now (length clafers.now) + 1) ≤ MOST_WIRES }
+    ensures single { IfOk result (AreSingleSoFar circuit.old clafers.now layout.now (length clafers.now) (singles_cost clafers.now layout.now (length clafers.now) + 1) circuit.new) }
+    ensures extends { Extends circuit.old circuit.new (singles_cost clafers.now layout.now (length clafers.now) + 1) }
+{
+    let mut all = circuit.constant(true)?;
+    for clafer in 0..clafers.len() {
+        let edges = &table[clafer];
+        all = and_clafer(alloc, circuit, clafers, layout, edges, clafer as u32, all)?;
+    }
+    Ok(all)
+}
+
+// Whether no two slots of one clafer have one target, and one parent if it is nested, where the reference is of set kind.
+fn targets_differ(
+    alloc: Global,
+    circuit: &mut Circuit,
+    clafers: &List<Clafer>,
+    layout: &Layout,
+    ties: &Ties,
+) -> Result<Wire, NoMemory>
+    requires few { length clafers.now < 2 ^ 32 }
+    requires ordered { IsOrdered clafers.now layout.now }
+    requires parents { HoldsEdges layout.now.parents (length layout.now.slots) ties.now.parents.items }
+    requires targets { HoldsEdges layout.now.targets (length layout.now.slots) ties.now.targets.items }
+    requires parent_bits { All (λ e. IsBit circuit.old e.here) layout.now.parents }
+    requires target_bits { All (λ e. IsBit circuit.old e.here) layout.now.targets }
+    requires room { length circuit.old + (targets_cost clafers.now layout.now + (singles_cost clafers.now layout.now (length clafers.now) + 1) + 1) ≤ MOST_WIRES }
+    ensures wire { IfOk result (IsWireOf circuit.new) }
+    ensures value { IfOk result (λ w. (bits : Items Bool) → wire_value circuit.new w bits ≡ each_two (targets_differ clafers.now layout.now bits) (numbers_below (length layout.now.slots))) }
+    ensures extends { Extends circuit.old circuit.new (targets_cost clafers.now layout.now + (singles_cost clafers.now layout.now (length clafers.now) + 1) + 1) }
+{
+    let table = edges_of_clafers(alloc, layout, clafers.len())?;
+    let nested = nested_differ(alloc, circuit, clafers, layout, ties)?;
+    let single = are_single(alloc, circuit, clafers, layout, &table)?;
+    let differ = circuit.and(nested, single)?;
+    Ok(differ)
 }
 
 // Whether two slots are live and their integers equal.
@@ -648,15 +771,18 @@ fn integers_are_different(
 /// kind, which have one parent, or are of a top-level clafer. A nested clafer with at most one instance below a parent takes no wires, since
 /// its multiplicity says so already.
 ///
-/// Slots are compared two by two: two of a clafer take two wires for each edge of the earlier one, and with integers four a bit; no wires are
-/// made for two slots of different clafers.
+/// At top level the edges to a target are counted, with four wires an edge. Below parents, and with integers, slots of a clafer are compared
+/// two by two: with two wires for each edge of the earlier one, and four a bit. So a top-level clafer takes wires as it has edges, and not as
+/// it has pairs of slots.
 pub fn have_sets(
     alloc: Global,
     circuit: &mut Circuit,
     core: &CoreModel,
     layout: &Layout,
 ) -> Result<Wire, NoMemory>
+    requires few { length core.now.clafers < 2 ^ 32 }
     requires laid { IsLaid circuit.old layout.now }
+    requires ordered { IsOrdered core.now.clafers layout.now }
     requires room { length circuit.old + sets_cost core.now.clafers layout.now ≤ MOST_WIRES }
     ensures wire { IfOk result (IsWireOf circuit.new) }
     ensures value { IfOk result (λ w. (bits : Items Bool) → wire_value circuit.new w bits ≡ have_sets core.now.clafers layout.now bits) }
@@ -665,8 +791,13 @@ pub fn have_sets(
     let parents = edges_of_slots(alloc, &layout.parents, layout.slots.len())?;
     let targets = edges_of_slots(alloc, &layout.targets, layout.slots.len())?;
     let ties = Ties { parents, targets };
-    let nodes = differ(alloc, circuit, &core.clafers, layout, &ties)?;
+    let nodes = targets_differ(alloc, circuit, &core.clafers, layout, &ties)?;
     let integers = integers_are_different(alloc, circuit, &core.clafers, layout, &ties.parents)?;
     let both = circuit.and(nodes, integers)?;
     Ok(both)
 }
+
+/// The target edges of a layout that fits lead from slots, in the order of their ends, and slots are of clafers of the model.
+pub fn layouts_that_fit_are_ordered()
+    ensures { (clafers : Items AClafer) (scopes : Scopes) (layout : ALayout) → Fits clafers scopes layout → IsOrdered clafers layout }
+{}

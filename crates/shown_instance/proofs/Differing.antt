@@ -284,7 +284,7 @@ or_true : (b : Bool) → (b || true) ≡ true
 or_true true = refl
 or_true false = refl
 
-any_there : {X : Type 0} (p : X → Bool) (xs : List X) (x : X) (n : ℕ) → n < length xs → get_or xs n x ≡ x → p x ≡ true → list_any p xs ≡ true
+pub any_there : {X : Type 0} (p : X → Bool) (xs : List X) (x : X) (n : ℕ) → n < length xs → get_or xs n x ≡ x → p x ≡ true → list_any p xs ≡ true
 any_there p [] x n m g h = absurd (omega (arith, m))
 any_there p (y ∷ ys) x zero m g h = ap (λ b. b || list_any p ys) (ap p g ∙ h)
 any_there p (y ∷ ys) x (suc n) m g h = ap (λ b. p y || b) (any_there p ys x n (omega (arith, m)) g h) ∙ or_true (p y)
@@ -437,11 +437,11 @@ record Collide (clafers : List Clafer) (layout : Layout) (bits : List Bool) (i j
   kind : is_set clafers [] (slot_clafer layout.slots i) ≡ true
   targets : same_option same_target (entry_at layout bits i).target (entry_at layout bits j).target ≡ true
 
-not_so : (b : Bool) → (b ≡ true → ⊥) → not b ≡ true
+pub not_so : (b : Bool) → (b ≡ true → ⊥) → not b ≡ true
 not_so true f = absurd (f refl)
 not_so false f = refl
 
-so_not : (b : Bool) → not b ≡ true → b ≡ true → ⊥
+pub so_not : (b : Bool) → not b ≡ true → b ≡ true → ⊥
 so_not true h t = true≢false (sym h)
 so_not false h t = true≢false (sym t)
 
@@ -558,7 +558,7 @@ none_collide clafers scopes layout bits k sets i j before hj li lj f = by (refer
 abbrev differ_at : List Clafer → Layout → List Bool → ℕ → ℕ → Bool
 differ_at clafers layout bits i j = not (is_live layout bits i && is_live layout bits j) || differ clafers (shown layout bits) (entry_at layout bits i) (entry_at layout bits j)
 
-implies : (a b : Bool) → (a ≡ true → b ≡ true) → (not a || b) ≡ true
+pub implies : (a b : Bool) → (a ≡ true → b ≡ true) → (not a || b) ≡ true
 implies true b f = f refl
 implies false b f = refl
 

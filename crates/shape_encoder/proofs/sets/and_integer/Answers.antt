@@ -1,6 +1,6 @@
-use Rattle.std.proofs.Common.{◌≡◌, ◌+◌, ◌*◌, ◌<◌, length, arith}
+use Rattle.std.proofs.Common.{◌+◌, ◌*◌, ◌<◌, length, arith}
 use Rattle.bool_circuit.specs.Circuit.{wire_value}
-use Rattle.shape_encoder.specs.Comparing.{turned_from, integer_pairs_cost, own_value_cost}
+use Rattle.shape_encoder.specs.Comparing.{integer_pairs_cost, own_value_cost}
 use Rattle.shape_encoder.proofs.Compared.{list_is, told_slot, costs_same}
 use Rattle.shape_encoder.proofs.Unequal.{untold_integer, own_value_cost_is}
 use Rattle.shape_encoder.proofs.sets.and_integer.Goals as goal

@@ -3,7 +3,7 @@ use Rattle.std.specs.Prelude.{is_some}
 use Rattle.bool_circuit.specs.Circuit.{wire_value}
 use Rattle.clf_tree.specs.Hierarchy.{parent_of}
 use Rattle.set_bits.specs.Fitting.{slot_clafer}
-use Rattle.shape_encoder.specs.Comparing.{turned_from, equal_cost, integer_pair_cost}
+use Rattle.shape_encoder.specs.Comparing.{equal_cost, integer_pair_cost}
 use Rattle.shape_encoder.proofs.Compared.{list_is, list_bits, clafer_at, clafers_same, costs_same}
 use Rattle.shape_encoder.proofs.Unequal.{integer_pair_cost_is, integer_value}
 use Rattle.shape_encoder.proofs.sets.and_integers_differ.Goals as goal

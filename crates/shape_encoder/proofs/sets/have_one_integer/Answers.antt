@@ -1,5 +1,5 @@
 use Rattle.std.proofs.Common.{◌+◌, ◌*◌, max, length}
-use Rattle.shape_encoder.proofs.Unequal.{slot_wires, equal_wire, live_wire}
+use Rattle.shape_encoder.proofs.Unequal.{slot_wires, equal_wire}
 use Rattle.shape_encoder.proofs.sets.have_one_integer.Goals as goal
 
 pub equal-requires-clause-a_in : goal.equal-requires-clause-a_in

@@ -1,6 +1,5 @@
-use Rattle.std.proofs.Common.{◌+◌, ◌<◌, length, take, arith}
+use Rattle.std.proofs.Common.{◌+◌, length, arith}
 use Rattle.shape_encoder.specs.Comparing.{integer_pair_cost, integer_pairs_cost}
-use Rattle.shape_encoder.proofs.Steps.{all_item}
 use Rattle.shape_encoder.proofs.Compared.{cost_step}
 use Rattle.shape_encoder.proofs.Unequal.{integer_more, integers_room, slot_of, slot_stays}
 use Rattle.shape_encoder.proofs.sets.integer_differs.Goals as goal

@@ -1,4 +1,4 @@
-use Rattle.std.proofs.Common.{◌+◌, ◌<◌, length, arith}
+use Rattle.std.proofs.Common.{◌+◌, length, arith}
 use Rattle.shape_encoder.specs.Comparing.{own_value_cost, values_cost}
 use Rattle.shape_encoder.proofs.Compared.{cost_step}
 use Rattle.shape_encoder.proofs.Unequal.{integers_more, values_room, slot_of, slot_stays}

@@ -1,7 +1,7 @@
-use Rattle.std.proofs.Common.{◌+◌, ◌<◌, length, arith}
+use Rattle.std.proofs.Common.{◌<◌, length, arith}
 use Rattle.shape_encoder.specs.Comparing.{slot_cost, slots_cost}
 use Rattle.shape_encoder.proofs.Compared.{cost_step, differ_more, sum_below-room}
-use Rattle.shape_encoder.proofs.sets.differ.Goals as goal
+use Rattle.shape_encoder.proofs.sets.nested_differ.Goals as goal
 
 pub and_slot-requires-clause-room : goal.and_slot-requires-clause-room
 and_slot-requires-clause-room c =
