@@ -1,4 +1,5 @@
 pub mod Compared
+pub mod Costs
 pub mod Laid
 pub mod Led
 pub mod Meeting

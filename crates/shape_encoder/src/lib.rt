@@ -5,13 +5,18 @@
 #![tactic(auto)]
 
 mod consistency;
+mod equality;
+mod joining;
 mod laws;
 mod placement;
 mod ranges;
 mod sets;
 mod taking;
+mod targets;
+mod telling;
+mod twins;
 
 pub use consistency::consistent;
 pub use laws::layouts_that_fit_are_laid;
 pub use placement::{have_parents, have_targets};
-pub use sets::{have_sets, layouts_that_fit_are_ordered};
+pub use sets::{have_sets, layouts_that_fit_are_ordered, sets_take_few_wires};
