@@ -1,3 +1,4 @@
+mod Binding
 pub mod Going
 pub mod Rows
 pub mod Variables

@@ -8,6 +8,7 @@ ghost use Rattle.clf_tree.specs.Named.{each, contains_itself};
 ghost use Rattle.set_bits.specs.Fitting.{Fits, IsRead, size};
 ghost use Rattle.shown_instance.specs.Consistent.{abstract_are_empty};
 ghost use Rattle.shown_instance.specs.Shaped.{is_shaped, ShowsShaped};
+ghost use Rattle.shape_encoder.specs.Comparing.{IsOrdered};
 ghost use Rattle.shape_encoder.specs.Reading.{IsLaid};
 ghost use Rattle.instance_encoder.specs.Shaping.{shape_cost};
 
@@ -17,6 +18,7 @@ use clf_tree::{CoreModel, Scopes};
 use set_bits::Layout;
 use shape_encoder::{
     consistent, have_bounds, have_parents, have_sets, have_targets, layouts_that_fit_are_laid,
+    layouts_that_fit_are_ordered,
 };
 use shown_instance::shaped_bits_show_a_tree;
 use std::alloc::Global;
@@ -32,6 +34,7 @@ fn meets_rules(
     requires closed { IsTrue (is_closed core.now.clafers) }
     requires few_clafers { length core.now.clafers < 2 ^ 32 }
     requires laid { IsLaid circuit.old layout.now }
+    requires ordered { IsOrdered core.now.clafers layout.now }
     requires children { All (λ e. e.from < length layout.now.slots) layout.now.parents }
     requires owners { All (λ e. e.to < length layout.now.slots) layout.now.parents }
     requires parents { All (λ e. e.to < length layout.now.live) layout.now.parents }
@@ -78,6 +81,7 @@ pub fn shape(
     ensures extends { Extends circuit.old circuit.new (shape_cost core.now.clafers scopes.now layout.now) }
 {
     layouts_that_fit_are_laid();
+    layouts_that_fit_are_ordered();
     shaped_bits_show_a_tree();
     let right = meets_rules(alloc, circuit, core, scopes, layout)?;
     Ok(right)

@@ -1,6 +1,7 @@
 pub mod Allowing
 pub mod Bounding
 pub mod Compared
+pub mod Costs
 pub mod Laid
 pub mod Led
 pub mod Marking

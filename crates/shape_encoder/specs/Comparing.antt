@@ -185,3 +185,8 @@ values_cost clafers layout n = sum_by (value_cost clafers layout) (numbers_below
 
 abbrev pub sets_cost : List Clafer → Layout → ℕ
 sets_cost clafers layout = targets_cost clafers layout + (singles_cost clafers layout (length clafers) + 1) + (values_cost clafers layout (length layout.values) + 1) + 2
+
+-- as many wires at most for so many slots, clafers, target edges and integers, where a slot has p parent edges, t target edges and an integer of b bits at most
+abbrev pub sets_bound : ℕ → ℕ → ℕ → ℕ → ℕ → ℕ → ℕ → ℕ
+sets_bound slots clafers edges integers p t b =
+    slots * ((4 * p + 4 * t + 4) + slots * (2 * p + 2 * t + 5)) + clafers * (4 * edges + 2) + integers * ((4 * p + 3) + integers * (2 * p + 4 * b + 10)) + 5

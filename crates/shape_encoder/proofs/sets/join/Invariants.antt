@@ -1,5 +1,0 @@
-use Rattle.shape_encoder.specs.Comparing.{IsJoinedSoFar}
-use Rattle.shape_encoder.proofs.sets.join.Given as goal
-
-abbrev pub invariant-loop-at : goal.invariant-loop-at
-invariant-loop-at l = IsJoinedSoFar l.fn.circuit l.table.items l.edges l.at l.circuit l.some
