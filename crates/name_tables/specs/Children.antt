@@ -1,0 +1,32 @@
+-- The children of a name, as the labels tell of them.
+use Rattle.std.specs.Prelude.{ℕ, ◌≡◌, ◌==◌, ◌&&◌, Bool, false, List, Option, Some, None, if◌then◌else◌}
+use Rattle.std.specs.Option.{option_map_or}
+use Rattle.clf_tree.specs.declared.model.Clafer.{Clafer}
+use Rattle.name_resolver.specs.declared.nearest.Nearest.{Nearest}
+use Rattle.name_resolver.specs.declared.nearest.Nearest.TheVariants.{Nothing, Only, Several}
+use Rattle.name_resolver.specs.Ways.{is_named}
+use Rattle.name_resolver.specs.Levels.{is_child_of}
+use Rattle.name_tables.specs.declared.label.Label.{Label}
+
+-- whether e has the name and is a child of one of ks
+abbrev pub is_child_named : List Clafer → List ℕ → List ℕ → ℕ → Bool
+is_child_named clafers name ks e = is_named clafers name e && is_child_of clafers ks e
+
+-- no clafer is such a child, or one alone; of several nothing more is told
+abbrev pub AreChildren : List Clafer → List ℕ → List ℕ → Nearest → Type 0
+AreChildren clafers name ks Nothing = (e : ℕ) → is_child_named clafers name ks e ≡ false
+AreChildren clafers name ks (Only d) = (e : ℕ) → is_child_named clafers name ks e ≡ (e == d)
+AreChildren clafers name ks Several = Unit {0}
+
+-- those to which the shortest ways lead, if these have one step
+abbrev pub told : Option Label → Nearest
+told None = Nothing
+told (Some l) = if l.steps == 1 then option_map_or Only l.only Several else Nothing
+
+-- those of two kinds
+abbrev pub both : Nearest → Nearest → Nearest
+both Nothing b = b
+both (Only d) Nothing = Only d
+both (Only d) (Only e) = if d == e then Only d else Several
+both (Only d) Several = Several
+both Several b = Several
