@@ -1,7 +1,8 @@
 -- The children of a name, as the labels tell of them.
-use Rattle.std.specs.Prelude.{ℕ, ◌≡◌, ◌==◌, ◌&&◌, Bool, false, List, Option, Some, None, if◌then◌else◌}
+use Rattle.std.specs.Prelude.{ℕ, ◌≡◌, ◌==◌, ◌&&◌, Bool, List, [], ◌∷◌, Option, Some, None, if◌then◌else◌}
 use Rattle.std.specs.Option.{option_map_or}
 use Rattle.clf_tree.specs.declared.model.Clafer.{Clafer}
+use Rattle.clf_tree.specs.Lists.{has}
 use Rattle.name_resolver.specs.declared.nearest.Nearest.{Nearest}
 use Rattle.name_resolver.specs.declared.nearest.Nearest.TheVariants.{Nothing, Only, Several}
 use Rattle.name_resolver.specs.Ways.{is_named}
@@ -12,21 +13,17 @@ use Rattle.name_tables.specs.declared.label.Label.{Label}
 abbrev pub is_child_named : List Clafer → List ℕ → List ℕ → ℕ → Bool
 is_child_named clafers name ks e = is_named clafers name e && is_child_of clafers ks e
 
--- no clafer is such a child, or one alone; of several nothing more is told
-abbrev pub AreChildren : List Clafer → List ℕ → List ℕ → Nearest → Type 0
-AreChildren clafers name ks Nothing = (e : ℕ) → is_child_named clafers name ks e ≡ false
-AreChildren clafers name ks (Only d) = (e : ℕ) → is_child_named clafers name ks e ≡ (e == d)
-AreChildren clafers name ks Several = Unit {0}
+-- just the clafers of ds have the name and are a child of one of ks
+abbrev pub AreChildren : List Clafer → List ℕ → List ℕ → List ℕ → Type 0
+AreChildren clafers name ks ds = (e : ℕ) → has ds e ≡ is_child_named clafers name ks e
+
+-- no child of k has the name, or one alone; of several nothing more is told
+abbrev pub IsChild : List Clafer → List ℕ → ℕ → Nearest → Type 0
+IsChild clafers name k Nothing = AreChildren clafers name (k ∷ []) []
+IsChild clafers name k (Only d) = AreChildren clafers name (k ∷ []) (d ∷ [])
+IsChild clafers name k Several = Unit {0}
 
 -- those to which the shortest ways lead, if these have one step
 abbrev pub told : Option Label → Nearest
 told None = Nothing
 told (Some l) = if l.steps == 1 then option_map_or Only l.only Several else Nothing
-
--- those of two kinds
-abbrev pub both : Nearest → Nearest → Nearest
-both Nothing b = b
-both (Only d) Nothing = Only d
-both (Only d) (Only e) = if d == e then Only d else Several
-both (Only d) Several = Several
-both Several b = Several

@@ -1,7 +1,9 @@
 //! The children of a name of several clafers, by the table.
 
-ghost use Rattle.std.specs.Prelude.{◌≡◌, ◌<◌, ◌^◌, [], ◌∷◌, ℕ, List as Seq, length, IfOk, IsTrue};
+ghost use Rattle.std.specs.Prelude.{◌≡◌, ◌<◌, ◌^◌, ◌++◌, [], ◌∷◌, ℕ, List as Seq, true, length, IfOk, IfSome, IsTrue};
+ghost use Rattle.std.specs.List.Sorted.{IsStrictlyIncreasing};
 ghost use Rattle.clf_tree.specs.Hierarchy.{is_closed};
+ghost use Rattle.clf_tree.specs.Lists.{has};
 ghost use Rattle.name_resolver.specs.Levels.{named, step_down};
 ghost use Rattle.name_tables.specs.Children as spec;
 ghost use Rattle.name_tables.specs.Children.{AreChildren};
@@ -31,65 +33,78 @@ fn told(label: Option<Label>) -> Nearest
     }
 }
 
-fn both(a: Nearest, b: Nearest) -> Nearest
-    ensures { result ≡ spec.both a b }
+// Adds the child of a clafer, if it has one; false where it has several.
+fn add_child(
+    clafers: &List<Clafer>,
+    entry: &NameEntry,
+    clafer: u32,
+    found: &mut Vec<u32>,
+) -> Result<bool, NoMemory>
+    ensures { IfOk result (λ all. all ≡ true → (name ks : Seq ℕ) → IsEntry clafers.now name entry.now → AreChildren clafers.now name ks found.old.items → AreChildren clafers.now name (ks ++ clafer ∷ []) found.new.items) }
 {
-    match a {
-        Nearest::Nothing => b,
-        Nearest::Several => Nearest::Several,
-        Nearest::Only(d) => match b {
-            Nearest::Nothing => Nearest::Only(d),
-            Nearest::Several => Nearest::Several,
-            Nearest::Only(e) => {
-                if d == e {
-                    Nearest::Only(d)
-                } else {
-                    Nearest::Several
-                }
-            }
-        },
+    match told(label_below(clafers, &entry.labels, clafer)) {
+        Nearest::Nothing => Ok(true),
+        Nearest::Only(child) => {
+            found.push(child)?;
+            Ok(true)
+        }
+        Nearest::Several => Ok(false),
     }
 }
 
-// It goes up from each of the clafers.
-fn children_told(clafers: &List<Clafer>, entry: &NameEntry, ks: &[u32]) -> Nearest
-    ensures { (name : Seq ℕ) → IsEntry clafers.now name entry.now → AreChildren clafers.now name ks.now result }
+// It goes up from each of the clafers, and stops at one that has several children of the name.
+fn children_told(
+    alloc: Global,
+    clafers: &List<Clafer>,
+    entry: &NameEntry,
+    ks: &[u32],
+) -> Result<Option<Vec<u32>>, NoMemory>
+    ensures { IfOk result (λ found. (name : Seq ℕ) → IsEntry clafers.now name entry.now → IfSome found (λ ds. AreChildren clafers.now name ks.now ds.items)) }
 {
-    let mut found = Nearest::Nothing;
+    let mut found = Vec::new(alloc);
     for clafer in ks {
-        found = both(found, told(label_below(clafers, &entry.labels, *clafer)));
+        if !add_child(clafers, entry, *clafer, &mut found)? {
+            return Ok(None);
+        }
     }
-    found
+    Ok(Some(found))
 }
 
 // A name of no clafer has no children.
 fn told_by_table(
+    alloc: Global,
     clafers: &List<Clafer>,
     table: &NameTable,
     name: &List<u8>,
     ks: &List<u32>,
-) -> Nearest
+) -> Result<Option<Vec<u32>>, NoMemory>
     requires table { IsTableOf clafers.now table.now }
-    ensures { AreChildren clafers.now name.now ks.now result }
+    ensures { IfOk result (λ found. IfSome found (λ ds. AreChildren clafers.now name.now ks.now ds.items)) }
 {
     match table.entries.get(&name.as_slice()) {
-        None => Nearest::Nothing,
-        Some(entry) => children_told(clafers, entry, ks.as_slice()),
+        None => Ok(Some(Vec::new(alloc))),
+        Some(entry) => {
+            let found = children_told(alloc, clafers, entry, ks.as_slice())?;
+            Ok(found)
+        }
     }
 }
 
-fn only(alloc: Global, clafer: u32) -> Result<List<u32>, NoMemory>
-    ensures { IfOk result (λ ks. ks ≡ clafer ∷ []) }
+// The same numbers in their order, each once.
+fn in_order(numbers: Vec<u32>) -> List<u32>
+    ensures rises { IsStrictlyIncreasing result }
+    ensures same { (e : ℕ) → has result e ≡ has numbers.items e }
 {
-    let mut ks = List::new(alloc);
-    ks.push(clafer)?;
-    Ok(ks)
+    let mut rising = numbers;
+    rising.sort_unstable();
+    rising.dedup();
+    List::from_vec(rising)
 }
 
 /// The children of a name of the given clafers, in the order of the model.
 ///
-/// It reads the table at each of the given clafers and at what is above it. Only where two children have the name it goes over
-/// all clafers once, which in a model that is accepted doesn't happen to the children of one clafer.
+/// It reads the table at each of the given clafers and at what is above it. Only where one of them has two children of the name,
+/// which in a model that is accepted none has, it goes over all clafers once.
 pub fn children_named(
     alloc: Global,
     clafers: &List<Clafer>,
@@ -102,13 +117,9 @@ pub fn children_named(
     requires table { IsTableOf clafers.now table.now }
     ensures { IfOk result (λ found. found ≡ named clafers.now name.now (step_down clafers.now ks.now)) }
 {
-    match told_by_table(clafers, table, name, ks) {
-        Nearest::Nothing => Ok(List::new(alloc)),
-        Nearest::Only(child) => {
-            let found = only(alloc, child)?;
-            Ok(found)
-        }
-        Nearest::Several => {
+    match told_by_table(alloc, clafers, table, name, ks)? {
+        Some(found) => Ok(in_order(found)),
+        None => {
             let found = children_by_scan(alloc, clafers, name, ks)?;
             Ok(found)
         }
