@@ -14,7 +14,7 @@ use Rattle.name_resolver.specs.Ways.{is_child, is_named, Way, here, down}
 use Rattle.name_resolver.specs.LookUp.{Hit, IsNearest}
 use Rattle.name_resolver.specs.LookUp as result
 use Rattle.name_resolver.specs.FirstWay.{goes_earlier, IsTaken}
-use Rattle.name_resolver.specs.Outwards.{Means, at_top, is_at_top}
+use Rattle.name_resolver.specs.Outwards.{Means}
 use Rattle.name_resolver.specs.Outwards as means
 use Rattle.name_resolver.proofs.Members.{In, first, later, head_or_later, nothing_in}
 use Rattle.name_resolver.proofs.FirstWays.{has_in, in_has}

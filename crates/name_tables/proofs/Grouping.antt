@@ -14,7 +14,6 @@ use Rattle.name_resolver.specs.declared.outside.Found.{Found}
 use Rattle.name_resolver.specs.declared.outside.Found.TheVariants as found
 use Rattle.name_resolver.specs.declared.steps.Meant.TheVariants as meant
 use Rattle.name_resolver.specs.Ways.{is_named}
-use Rattle.name_resolver.specs.LookUp.{Hit, IsNearest}
 use Rattle.name_resolver.specs.LookUp as result
 use Rattle.name_resolver.specs.Outwards.{Means, is_at_top, at_top}
 use Rattle.name_resolver.specs.Outwards as means
