@@ -50,7 +50,7 @@ pub fn looked_up(
         Form::Name(written) => name(alloc, known, scope, at, written),
         Form::Join(a, written) => {
             let a = looked_up(alloc, known, scope, a.get())?;
-            join(alloc, known.model, &scope.within, at, a, written)
+            join(alloc, known, &scope.within, at, a, written)
         }
         Form::Step { of, into, follow } => {
             let of = looked_up(alloc, known, scope, of.get())?;

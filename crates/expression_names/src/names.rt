@@ -20,8 +20,8 @@ use clf_tree::{
     Clafer, Expr, Form, Kind, Model, Within, clafers_of, dref_kind, kind_of, parent_kind,
     parents_of, this_kind,
 };
-use name_resolver::{Found, Meant, children_named, steps_of};
-use name_tables::{NameTable, meaning};
+use name_resolver::{Found, Meant, steps_of};
+use name_tables::{NameTable, children_named, meaning};
 use refusal_order::refused;
 use sqlite_items::Boxed;
 use std::alloc::Global;
@@ -185,16 +185,18 @@ pub struct NamedStep {
 fn children_of(
     alloc: Global,
     clafers: &List<Clafer>,
+    table: &NameTable,
     kind: &Option<Kind>,
     name: &List<u8>,
 ) -> Result<List<u32>, NoMemory>
     requires closed { IsTrue (is_closed clafers.now) }
     requires few { length clafers.now < 2 ^ 32 }
+    requires table { IsTableOf clafers.now table.now }
     ensures { IfOk result (λ ks. ks ≡ steps.children_named clafers.now name.now kind.now) }
 {
     match kind {
         Some(Kind::Nodes(ks)) => {
-            let children = children_named(alloc, clafers, name, ks)?;
+            let children = children_named(alloc, clafers, table, name, ks)?;
             Ok(children)
         }
         _ => Ok(List::new(alloc)),
@@ -215,19 +217,21 @@ fn some_into(follow: bool, into: List<u32>) -> Option<NamedStep>
 fn step_by(
     alloc: Global,
     clafers: &List<Clafer>,
+    table: &NameTable,
     kind: Option<Kind>,
     name: &List<u8>,
 ) -> Result<Option<NamedStep>, NoMemory>
     requires closed { IsTrue (is_closed clafers.now) }
     requires few { length clafers.now < 2 ^ 32 }
+    requires table { IsTableOf clafers.now table.now }
     ensures { IfOk result (λ o. o ≡ spec.step_by clafers.now kind name.now) }
 {
-    let own = children_of(alloc, clafers, &kind, name)?;
+    let own = children_of(alloc, clafers, table, &kind, name)?;
     if let Some(step) = some_into(false, own) {
         return Ok(Some(step));
     }
     let targets = dref_kind(alloc, clafers, kind)?;
-    let further = children_of(alloc, clafers, &targets, name)?;
+    let further = children_of(alloc, clafers, table, &targets, name)?;
     Ok(some_into(true, further))
 }
 
@@ -279,22 +283,23 @@ fn join_refusal(at: Span, step: &Option<NamedStep>) -> Option<Refusal>
 /// A step by a name, or the name as it stands.
 pub fn join(
     alloc: Global,
-    model: &Model,
+    known: &Known,
     within: &Within,
     at: Span,
     a: Looked,
     name: &List<u8>,
 ) -> Result<Looked, NoMemory>
-    requires closed { IsTrue (is_closed model.now.clafers) }
-    requires few { length model.now.clafers < 2 ^ 32 }
-    ensures expr { IfOk result (λ l. tree l.expr ≡ spec.joined_tree at (tree a.expr) name.now (spec.step_by model.now.clafers a.kind name.now)) }
-    ensures kind { IfOk result (λ l. l.kind ≡ kind model.now.clafers (spec.joined_tree at (tree a.expr) name.now (spec.step_by model.now.clafers a.kind name.now)) within.now) }
-    ensures refused { IfOk result (λ l. l.refused ≡ option_or a.refused (spec.join_refusal at (spec.step_by model.now.clafers a.kind name.now))) }
+    requires closed { IsTrue (is_closed known.now.model.now.clafers) }
+    requires few { length known.now.model.now.clafers < 2 ^ 32 }
+    requires table { IsTableOf known.now.model.now.clafers known.now.table.now }
+    ensures expr { IfOk result (λ l. tree l.expr ≡ spec.joined_tree at (tree a.expr) name.now (spec.step_by known.now.model.now.clafers a.kind name.now)) }
+    ensures kind { IfOk result (λ l. l.kind ≡ kind known.now.model.now.clafers (spec.joined_tree at (tree a.expr) name.now (spec.step_by known.now.model.now.clafers a.kind name.now)) within.now) }
+    ensures refused { IfOk result (λ l. l.refused ≡ option_or a.refused (spec.join_refusal at (spec.step_by known.now.model.now.clafers a.kind name.now))) }
 {
-    let step = step_by(alloc, &model.clafers, a.kind, name)?;
+    let step = step_by(alloc, &known.model.clafers, known.table, a.kind, name)?;
     let refused = or_own(a.refused, join_refusal(at, &step));
     let expr = joined(alloc, at, a.expr, name, step)?;
-    let looked = with_kind(alloc, model, within, expr, refused)?;
+    let looked = with_kind(alloc, known.model, within, expr, refused)?;
     Ok(looked)
 }
 

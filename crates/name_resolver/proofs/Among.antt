@@ -1,32 +1,14 @@
--- None, one, or several, with one more.
-use Rattle.std.proofs.Common.{◌≡◌, ℕ, ◌+◌, ◌<◌, true, false, List, [], ◌∷◌, ◌++◌, length, get_or, take, cond, refl, ap, ◌∙◌, append-nil}
+-- The clafers of a name, with one more item of the list.
+use Rattle.std.proofs.Common.{◌≡◌, ℕ, ◌+◌, ◌<◌, true, false, List, [], ◌∷◌, ◌++◌, length, get_or, take, cond, ap, ◌∙◌, append-nil}
 use Rattle.std.proofs.lemmas.List.{take_more}
 use Rattle.std.proofs.lemmas.List.Elements.{filter-append}
 use Rattle.clf_tree.specs.declared.model.Clafer.{Clafer}
 use Rattle.name_resolver.specs.Ways.{is_named}
-use Rattle.name_resolver.specs.Levels.{named, among, one_more}
-
-pub among-push : (xs : List ℕ) (d : ℕ) → among (xs ++ d ∷ []) ≡ one_more (among xs) d
-among-push [] d = refl
-among-push (x ∷ []) d = refl
-among-push (x ∷ y ∷ xs) d = refl
+use Rattle.name_resolver.specs.Levels.{named}
 
 named-more : (clafers : List Clafer) (name ms : List ℕ) (i : ℕ) → i < length ms
     → named clafers name (take (i + 1) ms) ≡ named clafers name (take i ms) ++ cond (is_named clafers name (get_or ms i 0)) (get_or ms i 0 ∷ []) []
 named-more clafers name ms i within = ap (named clafers name) (take_more ms i 0 within) ∙ filter-append (is_named clafers name) (take i ms) (get_or ms i 0 ∷ [])
-
-pub among-kept : (clafers : List Clafer) (name ms : List ℕ) (i : ℕ) → i < length ms → is_named clafers name (get_or ms i 0) ≡ true
-    → among (named clafers name (take (i + 1) ms)) ≡ one_more (among (named clafers name (take i ms))) (get_or ms i 0)
-among-kept clafers name ms i within pass =
-    ap among (named-more clafers name ms i within ∙ ap (λ b. named clafers name (take i ms) ++ cond b (get_or ms i 0 ∷ []) []) pass)
-    ∙ among-push (named clafers name (take i ms)) (get_or ms i 0)
-
-pub among-dropped : (clafers : List Clafer) (name ms : List ℕ) (i : ℕ) → i < length ms → is_named clafers name (get_or ms i 0) ≡ false
-    → among (named clafers name (take (i + 1) ms)) ≡ among (named clafers name (take i ms))
-among-dropped clafers name ms i within fail =
-    ap among (named-more clafers name ms i within ∙ ap (λ b. named clafers name (take i ms) ++ cond b (get_or ms i 0 ∷ []) []) fail ∙ append-nil (named clafers name (take i ms)))
-
-pub ruleset among_steps = (among-kept, among-dropped)
 
 pub named-kept : (clafers : List Clafer) (name ms : List ℕ) (i : ℕ) → i < length ms → is_named clafers name (get_or ms i 0) ≡ true
     → named clafers name (take (i + 1) ms) ≡ named clafers name (take i ms) ++ get_or ms i 0 ∷ []

@@ -1,11 +1,10 @@
 -- The levels below a clafer, and what the first of them that has a name tells.
-use Rattle.std.proofs.Common.{◌≡◌, ℕ, zero, suc, ◌-◌, ◌<◌, ◌≤◌, true, false, List, [], ◌∷◌, length, refl, ap, sym, subst, ◌∙◌, arith, inl, inr}
-use Rattle.std.specs.List.{filter}
+use Rattle.std.proofs.Common.{◌≡◌, ℕ, zero, suc, ◌-◌, ◌<◌, ◌≤◌, true, List, [], ◌∷◌, length, refl, ap, sym, subst, ◌∙◌, arith, inl, inr}
 use Rattle.std.proofs.lemmas.Bool.Decides.{leb_tells}
 use Rattle.clf_tree.specs.declared.model.Clafer.{Clafer}
 use Rattle.clf_tree.specs.Lists.{numbers_below}
 use Rattle.name_resolver.specs.declared.nearest.Nearest.{Nearest}
-use Rattle.name_resolver.specs.declared.nearest.Nearest.TheVariants.{Nothing, Only, Several}
+use Rattle.name_resolver.specs.declared.nearest.Nearest.TheVariants.{Nothing}
 use Rattle.name_resolver.specs.Ways.{is_child, children, is_named, Way, here, down}
 use Rattle.name_resolver.specs.LookUp.{Hit, IsShortest, IsNearest}
 use Rattle.name_resolver.specs.LookUp as result
@@ -137,26 +136,3 @@ by_stops clafers c name r (at j d rest before found is) =
 -- the first level below a clafer that has the name tells what the name means there
 pub nearest_by_levels : (clafers : List Clafer) (c : ℕ) (name : List ℕ) (r : Nearest) → first_level clafers name (length clafers) (children clafers c) ≡ r → IsNearest clafers c name r
 nearest_by_levels clafers c name r is = by_stops clafers c name r (subst (Stops clafers name (children clafers c) (length clafers)) is (stops clafers name (length clafers) (children clafers c)))
-
-filter_none : (xs : List ℕ) → filter (λ d. false) xs ≡ []
-filter_none [] = refl
-filter_none (x ∷ xs) = filter_none xs
-
-pub first_level-nil : (clafers : List Clafer) (name : List ℕ) (n : ℕ) → first_level clafers name n [] ≡ Nothing
-first_level-nil clafers name zero = refl
-first_level-nil clafers name (suc n) = ap (first_level clafers name n) (filter_none (numbers_below (length clafers))) ∙ first_level-nil clafers name n
-
-pub nil_level : (clafers : List Clafer) (name : List ℕ) (n : ℕ) (ms : List ℕ) → length ms ≡ 0 → first_level clafers name n ms ≡ Nothing
-nil_level clafers name n [] e = first_level-nil clafers name n
-nil_level clafers name n (m ∷ ms) e = absurd (omega (arith, e))
-
-pub level_nothing : (clafers : List Clafer) (name : List ℕ) (n : ℕ) (ms : List ℕ) → among (named clafers name ms) ≡ Nothing → first_level clafers name (suc n) ms ≡ first_level clafers name n (step_down clafers ms)
-level_nothing clafers name n ms e = ap (λ r. or_further r (first_level clafers name n (step_down clafers ms))) e
-
-further_not : (r further : Nearest) → (r ≡ Nothing → ⊥) → or_further r further ≡ r
-further_not Nothing further not = absurd (not refl)
-further_not (Only d) further not = refl
-further_not Several further not = refl
-
-pub level_found : (clafers : List Clafer) (name : List ℕ) (n : ℕ) (ms : List ℕ) (r : Nearest) → r ≡ among (named clafers name ms) → (r ≡ Nothing → ⊥) → first_level clafers name (suc n) ms ≡ r
-level_found clafers name n ms r e not = further_not (among (named clafers name ms)) _ (λ z. not (e ∙ z)) ∙ sym e

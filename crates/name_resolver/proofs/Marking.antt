@@ -9,11 +9,9 @@ use Rattle.std.proofs.lemmas.List.{get_or-set_same, get_or-set_other}
 use Rattle.std.proofs.lemmas.List.Folds.{list_any-append}
 use Rattle.clf_tree.specs.declared.model.Clafer.{Clafer}
 use Rattle.clf_tree.specs.Lists.{has}
-use Rattle.clf_tree.specs.Hierarchy.{is_below, names_below, is_closed, is_a, way_up, with_supers, parent_of, super_of}
-use Rattle.clf_tree.specs.Kinds.{is_child as is_declared_under}
-use Rattle.name_resolver.specs.Ways.{is_child}
+use Rattle.clf_tree.specs.Hierarchy.{is_below, names_below, is_closed, is_a, way_up, parent_of, super_of}
 use Rattle.name_resolver.specs.Levels.{is_child_of}
-use Rattle.name_resolver.specs.Marks.{MarksAbove, MarksParents}
+use Rattle.name_resolver.specs.Marks.{MarksAbove}
 use Rattle.name_resolver.proofs.Beyond.{both, not_got, alone, parent_there}
 
 equals_itself : (p : ℕ) → (p == p) ≡ true
@@ -114,82 +112,3 @@ super_is clafers c k found = ap (λ (o : Option Clafer). option_and_then (λ x. 
 
 pub parent_is : (clafers : List Clafer) (c : ℕ) (k : Clafer) → slice_get clafers c ≡ Some k → parent_of clafers c ≡ k.parent
 parent_is clafers c k found = ap (λ (o : Option Clafer). option_and_then (λ x. x.parent) o) found
-
--- ---- marked parents
-
-under_more : (clafers : List Clafer) (p m : ℕ) (ms : List ℕ) (b : Bool) → is_declared_under clafers p m ≡ b
-    → list_any (is_declared_under clafers p) (ms ++ m ∷ []) ≡ (list_any (is_declared_under clafers p) ms || b)
-under_more clafers p m ms b e =
-    list_any-append (is_declared_under clafers p) ms (m ∷ []) ∙ or_both (list_any (is_declared_under clafers p) ms) (is_declared_under clafers p m)
-    ∙ ap (λ c. list_any (is_declared_under clafers p) ms || c) e
-
-pub parent-none : (clafers : List Clafer) (m : ℕ) (marks : List Bool) → parent_of clafers m ≡ None → (ms : List ℕ) → MarksParents clafers ms marks → MarksParents clafers (ms ++ m ∷ []) marks
-parent-none clafers m marks e ms holds p =
-    holds p
-    ∙ sym (under_more clafers p m ms false (ap (λ (o : Option ℕ). option_map_or (λ q. q == p) o false) e) ∙ or_false (list_any (is_declared_under clafers p) ms))
-
-pub parent-marked : (clafers : List Clafer) (m q : ℕ) (marks : List Bool) → parent_of clafers m ≡ Some q → q < length marks → (ms : List ℕ) → MarksParents clafers ms marks
-    → MarksParents clafers (ms ++ m ∷ []) (set marks q true)
-parent-marked clafers m q marks e within ms holds p =
-    elim (cases_eq p q) [
-      | inl same ↦
-          ap (λ z. get_or (set marks q true) z false) same ∙ get_or-set_same marks q true false within
-          ∙ sym (under_more clafers p m ms true (ap (λ (o : Option ℕ). option_map_or (λ r. r == p) o false) e ∙ ap (λ z. q == z) same ∙ equals_itself q)
-          ∙ or_true (list_any (is_declared_under clafers p) ms))
-      | inr other ↦
-          get_or-set_other marks q p true false other ∙ holds p
-          ∙ sym (under_more clafers p m ms false (ap (λ (o : Option ℕ). option_map_or (λ r. r == p) o false) e ∙ differs q p (λ z. other (sym z)))
-          ∙ or_false (list_any (is_declared_under clafers p) ms))
-    ]
-
-pub ruleset parent_steps = (parent-none, parent-marked)
-
--- ---- marks on a way up
-
-pub any-here : (clafers : List Clafer) (f : ℕ → Bool) (n cur : ℕ) → f cur ≡ true → list_any f (way_up clafers n cur) ≡ true
-any-here clafers f zero cur e = ap (λ b. b || false) e
-any-here clafers f (suc n) cur e = ap (λ b. b || list_any f (option_map_or (way_up clafers n) (super_of clafers cur) [])) e
-
-pub any-on : (clafers : List Clafer) (f : ℕ → Bool) (n cur above : ℕ) → f cur ≡ false → super_of clafers cur ≡ Some above
-    → list_any f (way_up clafers (suc n) cur) ≡ list_any f (way_up clafers n above)
-any-on clafers f n cur above fails e =
-    ap (λ b. b || list_any f (option_map_or (way_up clafers n) (super_of clafers cur) [])) fails ∙ ap (λ (o : Option ℕ). list_any f (option_map_or (way_up clafers n) o [])) e
-
-pub any-end : (clafers : List Clafer) (f : ℕ → Bool) (n cur : ℕ) → f cur ≡ false → super_of clafers cur ≡ None → list_any f (way_up clafers (suc n) cur) ≡ false
-any-end clafers f n cur fails e =
-    ap (λ b. b || list_any f (option_map_or (way_up clafers n) (super_of clafers cur) [])) fails ∙ ap (λ (o : Option ℕ). list_any f (option_map_or (way_up clafers n) o [])) e
-
-pub any-last : (clafers : List Clafer) (f : ℕ → Bool) (cur : ℕ) → list_any f (way_up clafers 0 cur) ≡ f cur
-any-last clafers f cur = or_false (f cur)
-
-or_mix : (a b c d : Bool) → ((a || b) || (c || d)) ≡ ((a || c) || (b || d))
-or_mix true b c d = refl
-or_mix false true c d = sym (or_true_on c d)
-  where
-    or_true_on : (c d : Bool) → (c || (true || d)) ≡ true
-    or_true_on true d = refl
-    or_true_on false d = refl
-or_mix false false c d = refl
-
-any_or : (g h : ℕ → Bool) (ys : List ℕ) → list_any (λ y. g y || h y) ys ≡ (list_any g ys || list_any h ys)
-any_or g h [] = refl
-any_or g h (y ∷ ys) = ap (λ b. (g y || h y) || b) (any_or g h ys) ∙ or_mix (g y) (h y) (list_any g ys) (list_any h ys)
-
-exchange : (f : ℕ → ℕ → Bool) (xs ys : List ℕ) → list_any (λ x. list_any (f x) ys) xs ≡ list_any (λ y. list_any (λ x. f x y) xs) ys
-exchange f [] ys = sym (any_false ys)
-exchange f (x ∷ xs) ys = ap (λ b. list_any (f x) ys || b) (exchange f xs ys) ∙ sym (any_or (f x) (λ y. list_any (λ z. f z y) xs) ys)
-
-any_same : (f g : ℕ → Bool) → ((x : ℕ) → f x ≡ g x) → (xs : List ℕ) → list_any f xs ≡ list_any g xs
-any_same f g same [] = refl
-any_same f g same (x ∷ xs) = ap (λ b. b || list_any f xs) (same x) ∙ ap (λ b. g x || b) (any_same f g same xs)
-
-child_by : (clafers : List Clafer) (p : ℕ) (o : Option ℕ) → list_any (λ s. option_map_or (λ q. q == s) o false) (with_supers clafers p) ≡ option_map_or (is_a clafers p) o false
-child_by clafers p None = any_false (with_supers clafers p)
-child_by clafers p (Some q) = refl
-
-pub marked-child : (clafers : List Clafer) (p : ℕ) (ms : List ℕ) (marks : List Bool) → MarksParents clafers ms marks
-    → list_any (λ s. get_or marks s false) (with_supers clafers p) ≡ list_any (is_child clafers p) ms
-marked-child clafers p ms marks holds =
-    any_same (λ s. get_or marks s false) (λ s. list_any (is_declared_under clafers s) ms) holds (with_supers clafers p)
-    ∙ exchange (λ s m. is_declared_under clafers s m) (with_supers clafers p) ms
-    ∙ any_same (λ m. list_any (λ s. is_declared_under clafers s m) (with_supers clafers p)) (is_child clafers p) (λ m. child_by clafers p (parent_of clafers m)) ms

@@ -1,5 +1,5 @@
 -- What a name means, step by step outwards.
-use Rattle.std.proofs.Common.{◌≡◌, ℕ, ◌+◌, ◌<◌, ◌≤◌, ◌&&◌, Bool, true, false, List, length, Option, Some, None, refl, ap, sym, subst, ◌∙◌, arith}
+use Rattle.std.proofs.Common.{◌≡◌, ℕ, ◌+◌, ◌<◌, ◌&&◌, Bool, true, false, List, length, Option, Some, None, refl, ap, sym, subst, ◌∙◌, arith}
 use Rattle.std.specs.Prelude.{nat_lt, IsTrue}
 use Rattle.std.specs.Option.{option_map_or}
 use Rattle.std.specs.List.{list_all}
@@ -13,12 +13,11 @@ use Rattle.name_resolver.specs.declared.nearest.Nearest.TheVariants as nearest
 use Rattle.name_resolver.specs.declared.outside.Found.{Found}
 use Rattle.name_resolver.specs.declared.outside.Found.TheVariants as found
 use Rattle.name_resolver.specs.declared.steps.Meant.TheVariants as meant
-use Rattle.name_resolver.specs.Ways.{Way, here, down}
+use Rattle.name_resolver.specs.Ways.{down}
 use Rattle.name_resolver.specs.LookUp.{IsNearest, only}
 use Rattle.name_resolver.specs.FirstWay.{IsTakenIfAny}
 use Rattle.name_resolver.specs.Outwards.{Means, at_top, below, ambiguous, outside, top}
 use Rattle.name_resolver.proofs.Members.{In, first, later, in_numbers}
-use Rattle.name_resolver.proofs.Straight.{child_below}
 
 both : (a b : Bool) → (a && b) ≡ true → (a ≡ true) × (b ≡ true)
 both true b h = (refl, h)
@@ -27,15 +26,6 @@ both false b h = absurd (true≢false (sym h))
 in_all : (p : ℕ → Bool) (c : ℕ) (xs : List ℕ) → list_all p xs ≡ true → In c xs → p c ≡ true
 in_all p c _ all (first {xs = xs}) = (both (p c) (list_all p xs) all).0
 in_all p c _ all (later {x = x} {xs = xs} i) = in_all p c xs ((both (p x) (list_all p xs) all).1) i
-
-way_end : (clafers : List Clafer) (c : ℕ) (way : List ℕ) (d : ℕ) → Way clafers c way d → 1 ≤ length way → d < length clafers
-way_end clafers c _ _ here some = absurd (omega (arith, some))
-way_end clafers c _ d (down {m = m} child here) some = child_below clafers c m child
-way_end clafers c _ d (down {m = m} {ms = ms} child (down more w)) some = way_end clafers m ms d (down more w) (omega arith)
-
--- the one clafer that is nearest is there, and the way to it is the one that is taken
-pub nearest_in : (clafers : List Clafer) (c : ℕ) (name : List ℕ) (d : ℕ) → IsNearest clafers c name (nearest.Only d) → d < length clafers
-nearest_in clafers c name d (only way hit shortest one) = way_end clafers c way d hit.leads hit.some_step
 
 pub means_below : (clafers : List Clafer) (c : ℕ) (name : List ℕ) (out d : ℕ) (way : List ℕ) → IsNearest clafers c name (nearest.Only d) → IsTakenIfAny clafers c way d
     → Means clafers name (Some c) out (found.Means (meant.Below out way))

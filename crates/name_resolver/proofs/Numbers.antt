@@ -1,6 +1,5 @@
 -- The numbers below one more.
-use Rattle.std.proofs.Common.{◌≡◌, ℕ, zero, suc, ◌+◌, ◌-◌, ◌<◌, Bool, true, false, ◌||◌, ◌&&◌, List, [], ◌∷◌, ◌++◌, map, cond, Some, refl, ap, sym, subst, ◌∙◌, arith, append-nil}
-use Rattle.std.specs.Prelude.{slice_get}
+use Rattle.std.proofs.Common.{◌≡◌, ℕ, zero, suc, ◌+◌, ◌-◌, ◌<◌, Bool, true, false, ◌||◌, ◌&&◌, List, [], ◌∷◌, ◌++◌, map, cond, refl, ap, sym, ◌∙◌, arith, append-nil}
 use Rattle.std.specs.List.{filter, list_any, list_all}
 use Rattle.std.proofs.lemmas.List.FromFn.{map-range_with_len_more}
 use Rattle.std.proofs.lemmas.List.Folds.{list_any-append, list_all-append}
@@ -39,25 +38,5 @@ filter-dropped p n fail = ap (filter p) (numbers-more n) ∙ filter-append p (nu
 pub all-more : (p : ℕ → Bool) (n : ℕ) → list_all p (numbers_below n) ≡ true → p n ≡ true → list_all p (numbers_below (n + 1)) ≡ true
 all-more p n before here =
     ap (list_all p) (numbers-more n) ∙ list_all-append p (numbers_below n) (n ∷ []) ∙ ap (λ b. b && (p n && true)) before ∙ ap (λ b. b && true) here
-
-head-kept : (xs ys : List ℕ) (k : ℕ) → slice_get xs 0 ≡ Some k → slice_get (xs ++ ys) 0 ≡ Some k
-head-kept [] ys k e = (cc)
-head-kept (x ∷ xs) ys k e = e
-
-head-longer : (p : ℕ → Bool) (k j : ℕ) → slice_get (filter p (numbers_below (k + 1))) 0 ≡ Some k → slice_get (filter p (numbers_below (k + 1 + j))) 0 ≡ Some k
-head-longer p k zero h = let same : k + 1 ≡ k + 1 + 0 = omega arith in subst (λ (n : ℕ). slice_get (filter p (numbers_below n)) 0 ≡ Some k) same h
-head-longer p k (suc j) h =
-    let same : k + 1 + j + 1 ≡ k + 1 + suc j = omega arith in
-    let split : filter p (numbers_below (k + 1 + j + 1)) ≡ filter p (numbers_below (k + 1 + j)) ++ filter p ((k + 1 + j) ∷ []) =
-    ap (filter p) (numbers-more (k + 1 + j)) ∙ filter-append p (numbers_below (k + 1 + j)) ((k + 1 + j) ∷ []) in
-    subst (λ (n : ℕ). slice_get (filter p (numbers_below n)) 0 ≡ Some k) same
-    (ap (λ (xs : List ℕ). slice_get xs 0) split ∙ head-kept (filter p (numbers_below (k + 1 + j))) (filter p ((k + 1 + j) ∷ [])) k (head-longer p k j h))
-
--- the first number that passes
-pub first-passing : (p : ℕ → Bool) (n k : ℕ) → k < n → filter p (numbers_below k) ≡ [] → p k ≡ true → slice_get (filter p (numbers_below n)) 0 ≡ Some k
-first-passing p n k within none pass =
-    let here : filter p (numbers_below (k + 1)) ≡ k ∷ [] = filter-kept p k pass ∙ ap (λ xs. xs ++ k ∷ []) none in
-    let same : k + 1 + (n - (k + 1)) ≡ n = omega (arith, within) in
-    subst (λ (m : ℕ). slice_get (filter p (numbers_below m)) 0 ≡ Some k) same (head-longer p k (n - (k + 1)) (ap (λ (xs : List ℕ). slice_get xs 0) here))
 
 pub ruleset child_steps = (all-more, any-none, any-some, filter-kept, filter-dropped)

@@ -1,5 +1,5 @@
 -- The way that is taken down to a clafer.
-use Rattle.std.specs.Prelude.{ℕ, zero, suc, ◌+◌, ◌≡◌, ◌≤◌, ◌==◌, ◌&&◌, ◌||◌, Bool, true, List, [], ◌∷◌, ◌++◌, length, slice_get, nat_lt, if◌then◌else◌}
+use Rattle.std.specs.Prelude.{ℕ, zero, suc, ◌+◌, ◌≡◌, ◌≤◌, ◌==◌, ◌&&◌, ◌||◌, Bool, true, List, [], ◌∷◌, length, slice_get, nat_lt, if◌then◌else◌}
 use Rattle.std.specs.Option.{option_map_or}
 use Rattle.std.specs.List.{filter, list_any}
 use Rattle.clf_tree.specs.declared.model.Clafer.{Clafer}
@@ -32,11 +32,6 @@ abbrev pub first_way : List Clafer → ℕ → ℕ → ℕ → List ℕ
 first_way clafers d zero c = []
 first_way clafers d (suc k) c =
     option_map_or (λ m. m ∷ first_way clafers d k m) (slice_get (filter (has (height clafers (d ∷ []) k)) (children clafers c)) 0) []
-
--- those lists from no step to k - 1 steps
-abbrev pub heights : List Clafer → ℕ → ℕ → List (List ℕ)
-heights clafers d zero = []
-heights clafers d (suc k) = heights clafers d k ++ height clafers (d ∷ []) k ∷ []
 
 -- the least number of steps, from k on, by which c leads to d
 abbrev pub steps_from : List Clafer → ℕ → ℕ → ℕ → ℕ → ℕ

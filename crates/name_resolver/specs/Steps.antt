@@ -1,12 +1,11 @@
 -- How what a name means is written as steps.
-use Rattle.std.specs.Prelude.{ℕ, zero, suc, Bool, true, false, List, [], ◌∷◌, Option, Some, None}
+use Rattle.std.specs.Prelude.{ℕ, zero, suc, Bool, false, List, [], ◌∷◌, Option, Some}
 use Rattle.clf_base.specs.declared.fault.Span.{Span}
 use Rattle.clf_tree.specs.declared.model.Clafer.{Clafer}
 use Rattle.clf_tree.specs.declared.kind.Kind.{Kind}
 use Rattle.clf_tree.specs.declared.kind.Kind.TheVariants.{Nodes}
 use Rattle.clf_tree.specs.Tree as e
 use Rattle.clf_tree.specs.Tree.{Tree}
-use Rattle.clf_tree.specs.Kinds.{dref_kind}
 use Rattle.name_resolver.specs.declared.steps.Meant.{Meant}
 use Rattle.name_resolver.specs.declared.steps.Meant.TheVariants as meant
 use Rattle.name_resolver.specs.Levels.{step_down, named}
@@ -27,23 +26,10 @@ steps_of at (meant.Variable i) = e.Variable at i
 steps_of at (meant.Below out way) = downwards at way (outwards at out (e.This at))
 steps_of at (meant.Top c) = e.Clafer at c
 
-abbrev pub step_into : Tree → Span → Bool → List ℕ → Option Tree
-step_into t at follow [] = None
-step_into t at follow (d ∷ ds) = Some (e.Step at t (d ∷ ds) follow)
-
 -- the children of the name of the clafers of a kind
 abbrev pub children_named : List Clafer → List ℕ → Option Kind → List ℕ
 children_named clafers name (Some (Nodes ks)) = named clafers name (step_down clafers ks)
 children_named clafers name _ = []
-
-abbrev pub or_else : Option Tree → Option Tree → Option Tree
-or_else (Some t) other = Some t
-or_else None other = other
-
--- `t.name`, where t has the kind: into the children of the name, else into those of its targets
-abbrev pub join : List Clafer → Tree → Option Kind → Span → List ℕ → Option Tree
-join clafers t kind at name =
-    or_else (step_into t at false (children_named clafers name kind)) (step_into t at true (children_named clafers name (dref_kind clafers kind)))
 
 abbrev pub step : Span → Tree → List ℕ → Bool → Tree
 step at t into follow = e.Step at t into follow

@@ -14,7 +14,6 @@ mod steps;
 #[cfg(test)]
 mod tests;
 
-pub use levels::step_down;
 pub use nearest::Nearest;
 pub use outside::{Found, means_one, means_there};
 pub use steps::{Meant, children_named, steps_of};

@@ -54,8 +54,8 @@ fn step(alloc: Global, at: Span, of: Expr, into: List<u32>, follow: bool) -> Res
     })
 }
 
-/// The list of one clafer.
-pub fn only(alloc: Global, clafer: u32) -> Result<List<u32>, NoMemory>
+// The list of one clafer.
+fn only(alloc: Global, clafer: u32) -> Result<List<u32>, NoMemory>
     ensures { IfOk result (λ ks. ks ≡ clafer ∷ []) }
 {
     let mut ks = List::new(alloc);
@@ -97,7 +97,7 @@ pub fn steps_of(alloc: Global, at: Span, meant: &Meant) -> Result<Expr, NoMemory
     }
 }
 
-/// The children of the name of the given clafers.
+/// The children of a name of the given clafers, in the order of the model. It goes over all clafers.
 #[tactic(auto, using(crate::proofs::Among::named_steps))]
 pub fn children_named(
     alloc: Global,

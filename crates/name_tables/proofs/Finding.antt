@@ -14,7 +14,7 @@ use Rattle.name_resolver.specs.Ways.{is_child, is_named, Way, here, down}
 use Rattle.name_resolver.specs.LookUp.{Hit, IsNearest}
 use Rattle.name_resolver.specs.LookUp as result
 use Rattle.name_resolver.specs.FirstWay.{goes_earlier, IsTaken}
-use Rattle.name_resolver.specs.Outwards.{Means, at_top, is_at_top}
+use Rattle.name_resolver.specs.Outwards.{Means}
 use Rattle.name_resolver.specs.Outwards as means
 use Rattle.name_resolver.proofs.Members.{In, first, later, head_or_later, nothing_in}
 use Rattle.name_resolver.proofs.FirstWays.{has_in, in_has}
@@ -120,7 +120,7 @@ nearest_some clafers name c l e t = by l.only t.shortest.ends e
     by _ (several d f way other w v long far differ) z =
         result.several d f way other w (λ u g h. subst (λ k. k ≤ length u) (sym long) (t.shortest.least u g h)) v (far ∙ sym long) differ
 
-all_end : (ways : List ℕ → ℕ → Type 0) (k : ℕ) (o : Option ℕ) (d : ℕ) → Ends ways k o → o ≡ Some d → (way : List ℕ) (e : ℕ) → ways way e → length way ≡ k → e ≡ d
+pub all_end : (ways : List ℕ → ℕ → Type 0) (k : ℕ) (o : Option ℕ) (d : ℕ) → Ends ways k o → o ≡ Some d → (way : List ℕ) (e : ℕ) → ways way e → length way ≡ k → e ≡ d
 all_end ways k _ d (one {d = x} all) z way e w long = let same : x ≡ d = (cc) in all way e w long ∙ same
 all_end ways k _ d (several x y v u w o l m differ) z way e h long = absurd (let no : None ≡ Some d = z in (cc))
 

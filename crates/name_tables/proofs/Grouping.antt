@@ -14,7 +14,6 @@ use Rattle.name_resolver.specs.declared.outside.Found.{Found}
 use Rattle.name_resolver.specs.declared.outside.Found.TheVariants as found
 use Rattle.name_resolver.specs.declared.steps.Meant.TheVariants as meant
 use Rattle.name_resolver.specs.Ways.{is_named}
-use Rattle.name_resolver.specs.LookUp.{Hit, IsNearest}
 use Rattle.name_resolver.specs.LookUp as result
 use Rattle.name_resolver.specs.Outwards.{Means, is_at_top, at_top}
 use Rattle.name_resolver.specs.Outwards as means
@@ -65,7 +64,7 @@ join true false x zs = refl
 join false true x zs = refl
 join false false x zs = refl
 
-filter_both : (p r : ℕ → Bool) (xs : List ℕ) → filter p (filter r xs) ≡ filter (λ x. p x && r x) xs
+pub filter_both : (p r : ℕ → Bool) (xs : List ℕ) → filter p (filter r xs) ≡ filter (λ x. p x && r x) xs
 filter_both p r [] = refl
 filter_both p r (x ∷ xs) =
     push p (r x) x (filter r xs) ∙ ap (λ zs. cond (r x) (cond (p x) (x ∷ zs) zs) zs) (filter_both p r xs) ∙ join (p x) (r x) x (filter (λ z. p z && r z) xs)
@@ -113,7 +112,7 @@ entry_more clafers i k name old new made e called put is has q = by (bytes_eq na
 
 -- ---- a name of no clafer
 
-not_named : (clafers : List Clafer) (name : List ℕ) (d : ℕ) → named_among clafers name (length clafers) ≡ [] → is_named clafers name d ≡ true → ⊥
+pub not_named : (clafers : List Clafer) (name : List ℕ) (d : ℕ) → named_among clafers name (length clafers) ≡ [] → is_named clafers name d ≡ true → ⊥
 not_named clafers name d none named = by (slice_get clafers d) refl named
   where
     by : (o : Option Clafer) → slice_get clafers d ≡ o → option_map_or (λ k. bytes_eq k.title.name name) o false ≡ true → ⊥

@@ -3,4 +3,5 @@ pub mod Finding
 pub mod Grouping
 pub mod Inheriting
 pub mod Reaching
+pub mod Stepping
 pub mod Summing

@@ -4,6 +4,7 @@
 //! it: it goes up from the context, and over no other clafer.
 #![tactic(auto)]
 
+mod children;
 mod heirs;
 mod label;
 mod outwards;
@@ -14,6 +15,7 @@ mod table;
 mod tests;
 mod ways_down;
 
+pub use children::children_named;
 pub use label::{Label, Nearby};
 pub use outwards::meaning;
 pub use table::NameTable;

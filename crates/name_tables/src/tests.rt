@@ -4,7 +4,7 @@ ghost use Rattle.std.specs.Option.{option_and_then};
 ghost use Rattle.clf_tree.specs.Hierarchy.{is_below, is_closed, names_below};
 ghost use Rattle.clf_tree.specs.Named.{each, follows_parent};
 
-use crate::{NameTable, meaning};
+use crate::{NameTable, children_named, meaning};
 use clf_base::{List, Span};
 use clf_tree::{Clafer, Interval, Reference, Title};
 use name_resolver::{Found, Meant};
@@ -109,5 +109,23 @@ fn names_are_looked_up_outwards(rt: HostRuntime) -> Result<(), Fail> {
         )
     );
     assert!(rt; matches!(meaning(alloc, &clafers, &table, None, &x)?, Found::Nothing));
+    Ok(())
+}
+
+#[test]
+fn children_of_a_name_are_found(rt: HostRuntime) -> Result<(), Fail> {
+    let alloc = rt.alloc();
+    let clafers = two_below(alloc)?;
+    assert!(rt; clafers.len() == 6 && is_closed(&clafers));
+    let table = NameTable::build(alloc, &clafers)?;
+    let x = List::from_slice(alloc, b"x")?;
+    let parents = List::from_slice(alloc, &[1, 3])?;
+    let two = children_named(alloc, &clafers, &table, &x, &parents)?;
+    assert!(rt; two.as_slice() == [2, 4].as_slice());
+    let heir = List::from_slice(alloc, &[5])?;
+    assert!(rt; children_named(alloc, &clafers, &table, &x, &heir)?.is_empty());
+    let c = List::from_slice(alloc, b"c")?;
+    let inherited = children_named(alloc, &clafers, &table, &c, &heir)?;
+    assert!(rt; inherited.as_slice() == [3].as_slice());
     Ok(())
 }
