@@ -170,7 +170,6 @@ fn visit<'a>(
 
 // Visits all in the order; no marks where the order isn't that of the turns.
 fn marks_of(alloc: Global, clafers: &List<Clafer>, tour: &Tour) -> Result<Vec<bool>, NoMemory>
-    requires nest { Nest clafers.now tour.now.enter.items tour.now.leave.items }
     ensures { IfOk result (λ marks. AllApart clafers.now tour.now.enter.items tour.now.leave.items tour.now.order marks.items) }
 {
     let mut marks = vec![in alloc; false; clafers.len()]?;
