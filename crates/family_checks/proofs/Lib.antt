@@ -6,6 +6,7 @@ pub mod Numbers
 pub mod Outside
 pub mod Owners
 pub mod Parents
+pub mod Parting
 pub mod Repeats
 pub mod Rising
 pub mod Unchanged

@@ -1,3 +1,4 @@
 pub mod Families
 pub mod Heights
 pub mod Marks
+pub mod Tours

@@ -11,9 +11,11 @@ mod containment;
 mod ordering;
 mod referring;
 mod refusing;
+mod repeating;
 mod search;
 mod stage;
 #[cfg(test)]
 mod tests;
+mod touring;
 
 pub use stage::{check_families, linked_families, targets_change_nothing};

@@ -1,25 +1,27 @@
 //! What is refused clafer by clafer.
 
-ghost use Rattle.std.specs.Prelude.{◌≡◌, ◌<◌, ◌^◌, ◌&&◌, ℕ, List as Seq, Option, None, length, nat_eq, bytes_eq, IfOk, IsTrue};
+ghost use Rattle.std.specs.Prelude.{◌≡◌, ◌<◌, ◌^◌, ◌&&◌, ℕ, List as Seq, Option, length, nat_eq, bytes_eq, IfOk, IsTrue};
 ghost use Rattle.std.specs.Option.{option_eq};
 ghost use Rattle.std.specs.List.{list_any};
 ghost use Rattle.std.specs.HashSet.{contains_by};
 ghost use Rattle.refusal_order.specs.Order.{with_refusals, first_refusal};
 ghost use Rattle.clf_tree.specs.Hierarchy.{is_closed};
+ghost use Rattle.clf_tree.specs.Named.{repeats_inherited};
+ghost use Rattle.super_linker.specs.Supers.{refused_if};
 ghost use Rattle.family_checks.specs.Families.{inherits_reference, reference_refusals, clafer_refusals, family_refusals, stands_at};
 ghost use Rattle.family_checks.specs.Heights.{Rise};
-ghost use Rattle.family_checks.specs.Marks.{GoDown};
+ghost use Rattle.family_checks.specs.Marks.{GoDown, MarkRepeats};
 
 use crate::certificate::super_of;
 use crate::children::{declared_names, repeats_inherited};
 use crate::containment::{in_containment, owner_heights};
-use crate::ordering::Heights;
 use crate::referring::{is_marked, reference_marks};
-use clf_base::{List, NoMemory, Refusal};
+use crate::repeating::repeat_marks;
+use clf_base::{List, NoMemory, Refusal, Span};
 use clf_tree::{Clafer, Reference, reference_of};
 use std::alloc::Global;
 use std::collections::HashSet;
-use super_linker::refused_if;
+use super_linker::{comes_first, refused_if};
 
 // Goes up only where a mark says that it may find one.
 #[tactic(auto, using(crate::proofs::Marking::marking_facts))]
@@ -38,6 +40,7 @@ fn inherits_reference(clafers: &List<Clafer>, marks: &[bool], clafer: u32) -> bo
     }
 }
 
+// Goes up only where the refusal would come first.
 fn in_reference(
     first: Option<Refusal>,
     clafers: &List<Clafer>,
@@ -48,39 +51,38 @@ fn in_reference(
     requires marked { GoDown clafers.now marks.now }
     ensures { result ≡ with_refusals first (reference_refusals clafers.now clafer reference) }
 {
-    match reference {
-        Some(own) => refused_if(
-            first,
-            inherits_reference(clafers, marks, clafer),
-            65,
-            own.at,
-        ),
-        None => first,
+    let Some(own) = reference else {
+        return first;
+    };
+    if !comes_first(first, 65, own.at) {
+        return first;
     }
+    let inherits = inherits_reference(clafers, marks, clafer);
+    refused_if(first, inherits, 65, own.at)
 }
 
-fn in_clafer(
-    alloc: Global,
+// Goes up only where a mark says that it may find the name, and where the refusal would come first.
+#[tactic(auto, using(crate::proofs::Joined::not_marked))]
+fn in_name(
     first: Option<Refusal>,
     clafers: &List<Clafer>,
-    heights: &Heights,
-    marks: &[bool],
     names: &HashSet<(Option<u32>, &[u8])>,
+    marks: &[bool],
     clafer: u32,
-) -> Result<Option<Refusal>, NoMemory>
+    at: Span,
+) -> Option<Refusal>
     requires clafer_in { clafer < length clafers.now }
-    requires closed { IsTrue (is_closed clafers.now) }
-    requires few { length clafers.now < 2 ^ 32 }
-    requires rise { Rise clafers.now heights.now.own.items heights.now.heirs.items }
-    requires marked { GoDown clafers.now marks.now }
+    requires marked { MarkRepeats clafers.now marks.now }
     requires known { (p : Option ℕ) (n : Seq ℕ) → contains_by (λ k. option_eq nat_eq p k.0 && bytes_eq n k.1.now) names.now ≡ list_any (stands_at p n) clafers.now }
-    ensures { IfOk result (λ r. r ≡ with_refusals first (clafer_refusals clafers.now clafer)) }
+    ensures { result ≡ with_refusals first (refused_if (repeats_inherited clafers.now clafer) 68 at) }
 {
-    let here = clafers.get(clafer as usize);
-    let contained = in_containment(alloc, first, clafers, heights, clafer, here.title.at)?;
-    let referring = in_reference(contained, clafers, marks, clafer, here.reference);
-    let repeats = repeats_inherited(clafers, names, clafer);
-    Ok(refused_if(referring, repeats, 68, here.title.at))
+    if !is_marked(marks, clafer) {
+        return first;
+    }
+    if !comes_first(first, 68, at) {
+        return first;
+    }
+    refused_if(first, repeats_inherited(clafers, names, clafer), 68, at)
 }
 
 /// The first of all that is refused.
@@ -91,18 +93,16 @@ pub fn in_clafers(alloc: Global, clafers: &List<Clafer>) -> Result<Option<Refusa
 {
     let heights = owner_heights(alloc, clafers)?;
     let marks = reference_marks(alloc, clafers)?;
+    let repeats = repeat_marks(alloc, clafers)?;
     let names = declared_names(alloc, clafers)?;
     let mut first = None;
     for number in 0..clafers.len() {
-        first = in_clafer(
-            alloc,
-            first,
-            clafers,
-            &heights,
-            &marks,
-            &names,
-            number as u32,
-        )?;
+        let here = clafers.get(number);
+        let clafer = number as u32;
+        let at = here.title.at;
+        let contained = in_containment(alloc, first, clafers, &heights, clafer, at)?;
+        let referring = in_reference(contained, clafers, &marks, clafer, here.reference);
+        first = in_name(referring, clafers, &names, &repeats, clafer, at);
     }
     Ok(first)
 }

@@ -15,8 +15,9 @@ use super_linker::link_supers;
 
 /// Whether clafers whose supers are linked are refused for containment, a second reference or the name of an inherited child.
 ///
-/// The time is near linear in the clafers and, for each clafer, the number of those that its parent inherits from. Only where
-/// clafers contain themselves more is searched, until the first of them is found.
+/// The time is near linear in the clafers and the length of their names. Only where the reference or the name of a clafer may be
+/// refused, and that refusal would come first, all above it is gone over: where clafers stand in the order of their places, once
+/// or twice. Where clafers contain themselves more is searched, until the first of them is found.
 ///
 /// # Errors
 ///
