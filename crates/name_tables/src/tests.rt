@@ -43,6 +43,15 @@ fn two_below(alloc: Global) -> Result<List<Clafer>, Fail> {
     Ok(clafers)
 }
 
+// a, below it x twice
+fn twins(alloc: Global) -> Result<List<Clafer>, Fail> {
+    let mut clafers = List::new(alloc);
+    clafers.push(clafer(alloc, b"a", None, None)?)?;
+    clafers.push(clafer(alloc, b"x", Some(0), None)?)?;
+    clafers.push(clafer(alloc, b"x", Some(0), None)?)?;
+    Ok(clafers)
+}
+
 fn is_below(n: usize, clafer: Option<u32>) -> bool
     ensures { result ≡ is_below n clafer }
 {
@@ -127,5 +136,18 @@ fn children_of_a_name_are_found(rt: HostRuntime) -> Result<(), Fail> {
     let c = List::from_slice(alloc, b"c")?;
     let inherited = children_named(alloc, &clafers, &table, &c, &heir)?;
     assert!(rt; inherited.as_slice() == [3].as_slice());
+    Ok(())
+}
+
+#[test]
+fn two_children_of_one_clafer_are_found(rt: HostRuntime) -> Result<(), Fail> {
+    let alloc = rt.alloc();
+    let clafers = twins(alloc)?;
+    assert!(rt; clafers.len() == 3 && is_closed(&clafers));
+    let table = NameTable::build(alloc, &clafers)?;
+    let x = List::from_slice(alloc, b"x")?;
+    let a = List::from_slice(alloc, &[0])?;
+    let both = children_named(alloc, &clafers, &table, &x, &a)?;
+    assert!(rt; both.as_slice() == [1, 2].as_slice());
     Ok(())
 }
