@@ -1,6 +1,6 @@
 //! What is demanded of bits, gathered over all rules.
 
-ghost use Rattle.std.specs.Prelude.{◌≡◌, ◌+◌, ◌*◌, ◌<◌, ◌≤◌, Bool, true, not, ◌||◌, length, replicate, slice_get, Some, IfOk, OnOk, IsTrue, All, List as Items};
+ghost use Rattle.std.specs.Prelude.{◌≡◌, ◌+◌, ◌*◌, ◌<◌, ◌≤◌, Bool, true, false, not, ◌&&◌, ◌||◌, length, replicate, slice_get, Some, IfOk, OnOk, IsTrue, All, List as Items};
 ghost use Rattle.bool_circuit.specs.Circuit.{wire_value, IsWireOf, Extends};
 ghost use Rattle.bool_circuit.specs.declared.circuit.TheConstants.{MOST_WIRES};
 ghost use Rattle.shown_instance.specs.Shown.{is_live};
