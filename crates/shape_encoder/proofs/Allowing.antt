@@ -61,7 +61,7 @@ between_told old first second new ws low high m n enough few wire all x y w ev f
 
 -- ---- large counts
 
-pub fits_eleven : (m : ℕ) → m ≤ 1023 → FitsBits 11 (pos m)
+fits_eleven : (m : ℕ) → m ≤ 1023 → FitsBits 11 (pos m)
 fits_eleven m h = record { low = omega (arith, ints); high = omega (arith, ints, h) }
 
 -- a small number that is passed on

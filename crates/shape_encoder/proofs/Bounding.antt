@@ -69,7 +69,7 @@ table_read slots edges table s below t l is = is ∙ default table s (omega (ari
     default (x ∷ xs) (suc i) h = default xs i (omega (arith, h))
 
 -- the wires of the children that are counted
-pub children_told : (gates : List Gate) (layout : Layout) (asked : ℕ → Bool) (s : ℕ) (below : List Child) (wires : List Wire) (bits : List Bool) → All (λ e. IsBit gates e.here) layout.parents → below ≡ children_at layout.slots layout.parents s → wires ≡ counted_wires asked below
+children_told : (gates : List Gate) (layout : Layout) (asked : ℕ → Bool) (s : ℕ) (below : List Child) (wires : List Wire) (bits : List Bool) → All (λ e. IsBit gates e.here) layout.parents → below ≡ children_at layout.slots layout.parents s → wires ≡ counted_wires asked below
     → count_true (wire_values gates wires bits) ≡ children_below layout bits asked s
 children_told gates layout asked s below wires bits parents is w =
     ap (λ ws. count_true (wire_values gates ws bits)) (w ∙ ap (counted_wires asked) is)
@@ -88,36 +88,6 @@ pub children_allowed : (old mid : List Gate) (layout : Layout) (asked : ℕ → 
     → ((bits : List Bool) → tells mid a bits ≡ allows interval (count_true (wire_values old wires bits))) → (bits : List Bool) → (not (is_live layout bits s) || tells mid a bits) ≡ (not (is_live layout bits s) || allows interval (children_below layout bits asked s))
 children_allowed old mid layout asked interval s below wires a parents is w v bits = ap (λ b. not (is_live layout bits s) || b) (v bits ∙ ap (allows interval) (children_told old layout asked s below wires bits parents is w))
 
--- ---- a slot whose clafer is limited, and another
-
-slot_of : (layout : Layout) (of : ℕ → Bool) (s : ℕ) (node : Node) (b : Bool) → slice_get layout.slots s ≡ Some node → of node.clafer ≡ b → of (slot_clafer layout.slots s) ≡ b
-slot_of layout of s node b at e = ap (λ (m : Node). of m.clafer) (get_or_from_slice_get layout.slots s node (record { clafer = 0; number = 0 }) at) ∙ e
-
-pub other_passes : (layout : Layout) (of asked : ℕ → Bool) (interval : Interval) (s : ℕ) (node : Node) (bits : List Bool) → slice_get layout.slots s ≡ Some node → of node.clafer ≡ false → slot_test layout of asked interval s bits ≡ true
-other_passes layout of asked interval s node bits at fail =
-    ap (λ b. not (is_live layout bits s && b) || allows interval (children_below layout bits asked s)) (slot_of layout of s node false at fail)
-    ∙ free (is_live layout bits s) (allows interval (children_below layout bits asked s))
-  where
-    free : (a b : Bool) → (not (a && false) || b) ≡ true
-    free true b = refl
-    free false b = refl
-
-pub owner_told : (layout : Layout) (of asked : ℕ → Bool) (interval : Interval) (s : ℕ) (node : Node) (bits : List Bool) → slice_get layout.slots s ≡ Some node → of node.clafer ≡ true
-    → (not (is_live layout bits s) || allows interval (children_below layout bits asked s)) ≡ slot_test layout of asked interval s bits
-owner_told layout of asked interval s node bits at pass =
-    ap (λ b. not b || allows interval (children_below layout bits asked s)) (sym (and_true (is_live layout bits s)) ∙ ap (λ b. is_live layout bits s && b) (sym (slot_of layout of s node true at pass)))
-
--- an interval that is not 0 to any
-pub bounded_cost : (interval : Interval) (n : ℕ) → is_any interval ≡ false → slot_cost interval n ≡ counted_cost n (most_counted interval n)
-bounded_cost interval n h = ap (λ b. cond b 0 (counted_cost n (most_counted interval n))) h
-
-pub owner_costs : (layout : Layout) (of asked : ℕ → Bool) (interval : Interval) (s : ℕ) (node : Node) → is_any interval ≡ false → slice_get layout.slots s ≡ Some node → of node.clafer ≡ true
-    → owner_cost layout of asked interval s ≡ counted_cost (child_slots layout asked s) (most_counted interval (child_slots layout asked s))
-owner_costs layout of asked interval s node bounded at pass = ap (λ b. cond b (slot_cost interval (child_slots layout asked s)) 0) (slot_of layout of s node true at pass) ∙ bounded_cost interval (child_slots layout asked s) bounded
-
-extends_none : (gates : List Gate) (n : ℕ) → Extends gates gates n
-extends_none gates n = record { at_least = omega arith; at_most = omega arith; same_inputs = refl; keeps = λ w h bits. refl }
-
 -- ---- each slot
 
 each_sum : (layout : Layout) (of asked : ℕ → Bool) (interval : Interval) (n : ℕ) → each_cost layout of asked interval (n + 1) ≡ each_cost layout of asked interval n + owner_cost layout of asked interval n
@@ -135,9 +105,6 @@ pub each_within : (old mid new : List Gate) (layout : Layout) (before d : Demand
 each_within old mid new layout before d of asked interval n l s x =
     extends_within old new (each_cost layout of asked interval n + owner_cost layout of asked interval n) (each_cost layout of asked interval (length layout.slots)) (each_room layout of asked interval n l)
     (extends_trans old mid new (each_cost layout of asked interval n) (owner_cost layout of asked interval n) s.extends x)
-
-pub each_starts : (old : List Gate) (layout : Layout) (d : Demands) (of asked : ℕ → Bool) (interval : Interval) → AreDemands old layout d → EachDemandedSoFar old layout d of asked interval 0 old d
-each_starts old layout d of asked interval a = record { extends = extends_none old 0; demanded = demanded_nothing old layout d (slots_test layout of asked interval 0) a (λ bits. refl) }
 
 pub each_more : (old mid new : List Gate) (layout : Layout) (before d e : Demands) (of asked : ℕ → Bool) (interval : Interval) (n : ℕ) → EachDemandedSoFar old layout before of asked interval n mid d
     → Extends mid new (owner_cost layout of asked interval n) → IsDemanded mid layout d (slot_test layout of asked interval n) new e → EachDemandedSoFar old layout before of asked interval (n + 1) new e
@@ -205,7 +172,7 @@ whole_told old mid layout asked interval wires a lives s v bits = v bits ∙ ap 
 -- ---- one clafer
 
 -- any number is allowed
-pub any_allowed : (interval : Interval) (n : ℕ) → is_any interval ≡ true → allows interval n ≡ true
+any_allowed : (interval : Interval) (n : ℕ) → is_any interval ≡ true → allows interval n ≡ true
 any_allowed interval n h = by (both (interval.low == 0) (is_none interval.high) h)
   where
     low : (l m : ℕ) → (l == 0) ≡ true → nat_le l m ≡ true
@@ -258,6 +225,10 @@ top_told clafers layout c k asked bits up e =
     ap (λ (g : ℕ → Bool). allows k.times (live_slots layout bits g)) e
     ∙ sym (ap (λ o. option_map_or (λ q. slots_test layout (λ d. is_a clafers d q) (λ d. is_a clafers d c) k.times (length layout.slots) bits) o (allows k.times (live_slots layout bits (λ d. is_a clafers d c)))) up)
 
+-- an interval that is not 0 to any
+bounded_cost : (interval : Interval) (n : ℕ) → is_any interval ≡ false → slot_cost interval n ≡ counted_cost n (most_counted interval n)
+bounded_cost interval n h = ap (λ b. cond b 0 (counted_cost n (most_counted interval n))) h
+
 pub top_cost : (clafers : List Clafer) (layout : Layout) (c : ℕ) (k : Clafer) (asked : ℕ → Bool) → is_any k.times ≡ false → k.parent ≡ None → asked ≡ (λ d. is_a clafers d c)
     → counted_cost (counted_slots layout asked) (most_counted k.times (counted_slots layout asked)) ≡ times_cost clafers layout c k
 top_cost clafers layout c k asked bounded up e =
@@ -295,9 +266,6 @@ pub bounds_within : (old mid new : List Gate) (clafers : List Clafer) (layout : 
 bounds_within old mid new clafers layout before d n k at s x =
     extends_within old new (bounds_room clafers layout n + clafer_cost clafers layout n k) (bounds_room clafers layout (length clafers)) (bounds_next clafers layout n k at (slice_get_within clafers n k at))
     (extends_trans old mid new (bounds_room clafers layout n) (clafer_cost clafers layout n k) s.extends x)
-
-pub bounds_start : (old : List Gate) (clafers : List Clafer) (layout : Layout) (d : Demands) → AreDemands old layout d → AllDemandedSoFar old clafers layout d 0 old d
-bounds_start old clafers layout d a = record { extends = extends_none old 0; demanded = demanded_nothing old layout d (clafers_test clafers layout 0) a (λ bits. refl) }
 
 pub bounds_more : (old mid new : List Gate) (clafers : List Clafer) (layout : Layout) (before d e : Demands) (n : ℕ) (k : Clafer) → slice_get clafers n ≡ Some k → AllDemandedSoFar old clafers layout before n mid d
     → Extends mid new (clafer_cost clafers layout n k) → IsDemanded mid layout d (clafer_test clafers layout n k) new e → AllDemandedSoFar old clafers layout before (n + 1) new e

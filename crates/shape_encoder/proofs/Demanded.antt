@@ -64,46 +64,11 @@ demanded_both old mid new layout d e f first second g h = record {
     regroup true b c = refl
     regroup false b c = refl
 
--- a wire more
-pub wire_demanded : (old new : List Gate) (layout : Layout) (d e : Demands) (test : List Bool → Bool) → AreDemands old layout d → IsWireOf new e.all → e.dead.items ≡ d.dead.items → e.is_possible ≡ d.is_possible
-    → ((bits : List Bool) → wire_value new e.all bits ≡ (wire_value old d.all bits && test bits)) → IsDemanded old layout d test new e
-wire_demanded old new layout d e test a w dead possible v = record {
-  demands = record { wire = w; slots = ap (λ (bs : List Bool). length bs) dead ∙ a.slots };
-  value = λ bits.
-      ap (λ b. (b && e.is_possible) && are_dead layout e.dead.items bits (length layout.slots)) (v bits)
-      ∙ ap (λ b. ((wire_value old d.all bits && test bits) && b) && are_dead layout e.dead.items bits (length layout.slots)) possible
-      ∙ ap (λ ms. ((wire_value old d.all bits && test bits) && d.is_possible) && are_dead layout ms bits (length layout.slots)) dead
-      ∙ turned (wire_value old d.all bits) (test bits) d.is_possible (are_dead layout d.dead.items bits (length layout.slots));
-}
-  where
-    turned : (a b c g : Bool) → (((a && b) && c) && g) ≡ (((a && c) && g) && b)
-    turned true true true true = refl
-    turned true true true false = refl
-    turned true true false g = refl
-    turned true false true true = refl
-    turned true false true false = refl
-    turned true false false g = refl
-    turned false b c g = refl
-
--- what cannot be met
-pub never_demanded : (gates : List Gate) (layout : Layout) (d e : Demands) (test : List Bool → Bool) → AreDemands gates layout d → e.all ≡ d.all → e.dead.items ≡ d.dead.items → e.is_possible ≡ false → ((bits : List Bool) → test bits ≡ false) → IsDemanded gates layout d test gates e
-never_demanded gates layout d e test a same dead possible h = record {
-  demands = record { wire = subst (IsWireOf gates) (sym same) a.wire; slots = ap (λ (bs : List Bool). length bs) dead ∙ a.slots };
-  value = λ bits.
-      ap (λ b. (wire_value gates e.all bits && b) && are_dead layout e.dead.items bits (length layout.slots)) possible
-      ∙ none (wire_value gates e.all bits) (are_dead layout e.dead.items bits (length layout.slots))
-      ∙ sym (ap (λ b. are_met gates layout d bits && b) (h bits) ∙ and_false (are_met gates layout d bits));
-}
-  where
-    none : (a b : Bool) → ((a && false) && b) ≡ false
-    none true b = refl
-    none false b = refl
-
-    and_false : (b : Bool) → (b && false) ≡ false
-    and_false true = refl
-    and_false false = refl
-
 -- ---- slots that cannot be live
+
+pub or_false : (b : Bool) → (b || false) ≡ b
+or_false true = refl
+or_false false = refl
 
 dead_push : (layout : Layout) (dead bits : List Bool) (n : ℕ) → are_dead layout dead bits (n + 1) ≡ (are_dead layout dead bits n && not (is_marked dead n && is_live layout bits n))
 dead_push layout dead bits n = ap (list_all (λ s. not (is_marked dead s && is_live layout bits s))) (numbers-push n) ∙ list_all-push (λ s. not (is_marked dead s && is_live layout bits s)) (numbers_below n) n
@@ -167,10 +132,10 @@ dead_demanded gates layout d e slot within a same possible dead = record {
 
 -- ---- the wire at the end
 
-pub live_at : (gates : List Gate) (layout : Layout) (n : ℕ) (live : Wire) (bits : List Bool) → All (IsBit gates) layout.live → slice_get layout.live n ≡ Some live → wire_value gates live bits ≡ is_live layout bits n
+live_at : (gates : List Gate) (layout : Layout) (n : ℕ) (live : Wire) (bits : List Bool) → All (IsBit gates) layout.live → slice_get layout.live n ≡ Some live → wire_value gates live bits ≡ is_live layout bits n
 live_at gates layout n live bits lives get = (all_item (IsBit gates) layout.live n live lives get).value bits ∙ sym (ap (λ o. option_map_or (entry bits) o false) get)
 
-pub live_wire : (gates : List Gate) (layout : Layout) (n : ℕ) (live : Wire) → All (IsBit gates) layout.live → slice_get layout.live n ≡ Some live → IsWireOf gates live
+live_wire : (gates : List Gate) (layout : Layout) (n : ℕ) (live : Wire) → All (IsBit gates) layout.live → slice_get layout.live n ≡ Some live → IsWireOf gates live
 live_wire gates layout n live lives get = (all_item (IsBit gates) layout.live n live lives get).wire
 
 pub met_more : (old mid new : List Gate) (layout : Layout) (d : Demands) (n : ℕ) (live all wire : Wire) (dead : Bool) → All (IsBit old) layout.live → slice_get layout.live n ≡ Some live → dead ≡ is_marked d.dead.items n
@@ -189,17 +154,6 @@ met_more old mid new layout d n live all wire dead lives get is s x w v = record
     grouped : (a b c : Bool) → ((a && b) && c) ≡ (a && (b && c))
     grouped true b c = refl
     grouped false b c = refl
-
-pub all_met : (old new : List Gate) (layout : Layout) (d : Demands) (wire : Wire) → d.is_possible ≡ true → IsMetSoFar old layout d (length layout.slots) new wire → (bits : List Bool) → wire_value new wire bits ≡ are_met old layout d bits
-all_met old new layout d wire possible s bits =
-    s.value bits ∙ ap (λ b. b && are_dead layout d.dead.items bits (length layout.slots)) (sym (ap (λ b. wire_value old d.all bits && b) possible ∙ and_true (wire_value old d.all bits)))
-
-pub none_met : (old : List Gate) (layout : Layout) (d : Demands) (bits : List Bool) → d.is_possible ≡ false → false ≡ are_met old layout d bits
-none_met old layout d bits possible = sym (ap (λ b. (wire_value old d.all bits && b) && are_dead layout d.dead.items bits (length layout.slots)) possible ∙ none (wire_value old d.all bits) (are_dead layout d.dead.items bits (length layout.slots)))
-  where
-    none : (a b : Bool) → ((a && false) && b) ≡ false
-    none true b = refl
-    none false b = refl
 
 -- nothing is marked at first
 none_marked : (n s : ℕ) → is_marked (replicate n false) s ≡ false

@@ -166,8 +166,8 @@ fn demand_all(
 ///
 /// The children of a node are counted on the wires of the edges that lead to it, which a table by slot gives, and the instances of a
 /// top-level or abstract clafer on the wires of its slots. Both bounds of an interval are counted on the same wires, so they share their
-/// marks. A bound that cannot be missed takes no wire: of an optional child with one slot there is nothing to count. Slots whose bounds
-/// cannot be met are gathered over all clafers, and take two wires each. Bounds 0 to any cost no time either.
+/// marks. A bound that cannot be missed takes no wire: of an optional child with one slot there is nothing to count. A slot whose
+/// bounds cannot be met must not be live: it takes two wires, however many clafers ask it. Where any number is allowed no slot is gone over.
 pub fn have_bounds(
     alloc: Global,
     circuit: &mut Circuit,

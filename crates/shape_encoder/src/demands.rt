@@ -3,6 +3,7 @@
 ghost use Rattle.std.specs.Prelude.{◌≡◌, ◌+◌, ◌*◌, ◌<◌, ◌≤◌, Bool, true, false, not, ◌&&◌, ◌||◌, length, replicate, slice_get, Some, IfOk, OnOk, IsTrue, All, List as Items};
 ghost use Rattle.bool_circuit.specs.Circuit.{wire_value, IsWireOf, Extends};
 ghost use Rattle.bool_circuit.specs.declared.circuit.TheConstants.{MOST_WIRES};
+ghost use Rattle.set_bits.specs.declared.layout.Layout.{Layout};
 ghost use Rattle.shown_instance.specs.Shown.{is_live};
 ghost use Rattle.shape_encoder.specs.Reading.{IsBit};
 ghost use Rattle.shape_encoder.specs.Demanding.{tells, IsAnswerIn, demand_cost, are_met, AreDemands, IsDemanded, IsMetSoFar};
@@ -108,20 +109,6 @@ fn demand_where(
     Ok(())
 }
 
-// Demands that a slot is not live.
-fn demand_dead(
-    circuit: &Circuit,
-    layout: &Layout,
-    slot: usize,
-    demands: &mut Demands,
-)
-    requires slot_in { slot < length layout.now.slots }
-    requires demands { AreDemands circuit.now layout.now demands.old }
-    ensures { IsDemanded circuit.now layout.now demands.old (λ bits. not (is_live layout.now bits slot)) circuit.now demands.new }
-{
-    demands.dead[slot] = true;
-}
-
 /// Demands of a slot what an answer tells, where it is live.
 pub(crate) fn demand_of_slot(
     circuit: &mut Circuit,
@@ -142,7 +129,7 @@ pub(crate) fn demand_of_slot(
     match allowed {
         Allowed::Always => Ok(()),
         Allowed::Never => {
-            demand_dead(circuit, layout, slot, demands);
+            demands.dead[slot] = true;
             Ok(())
         }
         Allowed::Where(right) => {
@@ -155,14 +142,13 @@ pub(crate) fn demand_of_slot(
 /// Demands what an answer tells.
 pub(crate) fn demand(
     circuit: &mut Circuit,
-    layout: &Layout,
     allowed: Allowed,
     demands: &mut Demands,
 ) -> Result<(), NoMemory>
-    requires demands { AreDemands circuit.old layout.now demands.old }
+    requires all_in { IsWireOf circuit.old demands.old.all }
     requires answer_in { IsAnswerIn circuit.old allowed }
     requires room { length circuit.old + demand_cost allowed ≤ MOST_WIRES }
-    ensures demanded { OnOk result (IsDemanded circuit.old layout.now demands.old (tells circuit.old allowed) circuit.new demands.new) }
+    ensures demanded { OnOk result ((layout : Layout) → AreDemands circuit.old layout demands.old → IsDemanded circuit.old layout demands.old (tells circuit.old allowed) circuit.new demands.new) }
     ensures extends { Extends circuit.old circuit.new (demand_cost allowed) }
 {
     match allowed {

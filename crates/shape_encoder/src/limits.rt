@@ -136,6 +136,6 @@ pub(crate) fn demand_live(
 {
     let wires = live_wires(alloc, layout, marks)?;
     let allowed = is_allowed(alloc, circuit, &wires, interval)?;
-    demand(circuit, layout, allowed, demands)?;
+    demand(circuit, allowed, demands)?;
     Ok(())
 }
