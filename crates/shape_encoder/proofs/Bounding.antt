@@ -1,5 +1,5 @@
 -- Bounds of slots and of clafers, one after another.
-use Rattle.std.proofs.Common.{◌≡◌, ℕ, zero, suc, ◌+◌, ◌*◌, ◌<◌, ◌≤◌, Bool, true, false, cond, not, ◌&&◌, ◌||◌, List, [], ◌∷◌, ◌++◌, length, map, get_or, Option, Some, None, is_none, refl, sym, ap, ◌∙◌, subst, arith}
+use Rattle.std.proofs.Common.{◌≡◌, ℕ, zero, suc, ◌+◌, ◌<◌, ◌≤◌, Bool, true, false, cond, not, ◌&&◌, ◌||◌, List, [], ◌∷◌, ◌++◌, length, map, get_or, Option, Some, None, is_none, refl, sym, ap, ◌∙◌, subst, arith}
 use Rattle.std.specs.Prelude.{slice_get, ◌==◌, nat_le}
 use Rattle.std.specs.Option.{option_map_or}
 use Rattle.std.specs.List.{All, list_all, range_with_len, sum_by}
@@ -11,7 +11,7 @@ use Rattle.std.proofs.lemmas.List.Elements.{All-append, All-cons, All-nil}
 use Rattle.std.proofs.lemmas.List.Sums.{sum_by-append, sum_by-cons}
 use Rattle.bool_circuit.specs.declared.gate.Wire.{Wire}
 use Rattle.bool_circuit.specs.declared.gate.Gate.{Gate}
-use Rattle.bool_circuit.specs.Circuit.{wire_value, wire_values, entry, IsWireOf, AreWiresOf, Extends}
+use Rattle.bool_circuit.specs.Circuit.{wire_values, entry, AreWiresOf, Extends}
 use Rattle.bool_circuit.proofs.Extending.{extends_trans, extends_within}
 use Rattle.integer_bits.specs.Totals.{count_true}
 use Rattle.clf_tree.specs.declared.model.Clafer.{Clafer}
@@ -32,10 +32,10 @@ use Rattle.shape_encoder.specs.declared.amounts.Allowed.{Allowed}
 use Rattle.shape_encoder.specs.declared.children.Child.{Child}
 use Rattle.shape_encoder.specs.declared.demands.Demands.{Demands}
 use Rattle.shape_encoder.specs.Counting.{children_at, AreChildren, counted_wires, AreCountedLive, counted_cost, most_counted, slot_cost, child_slots, each_cost, counted_slots, whole_cost, times_cost, group_cost, clafer_cost, bounds_room}
-use Rattle.shape_encoder.specs.Demanding.{tells, AreDemands, IsDemanded, slot_test, owner_cost, slots_test, clafer_test, clafers_test, EachDemandedSoFar, AllDemandedSoFar}
-use Rattle.shape_encoder.proofs.Steps.{all_item, and_true, list_all-push, numbers-push, bit_values, bit_wires}
+use Rattle.shape_encoder.specs.Demanding.{tells, IsDemanded, slot_test, owner_cost, slots_test, clafer_test, clafers_test, EachDemandedSoFar, AllDemandedSoFar}
+use Rattle.shape_encoder.proofs.Steps.{all_item, list_all-push, numbers-push, bit_values, bit_wires}
 use Rattle.shape_encoder.proofs.Tabling.{child_bits, counted_kept, child_slots_counted, children_counted}
-use Rattle.shape_encoder.proofs.Demanded.{demanded_nothing, demanded_same, demanded_both}
+use Rattle.shape_encoder.proofs.Demanded.{demanded_same, demanded_both}
 
 -- ---- sums over numbers
 
@@ -274,8 +274,8 @@ bounds_more old mid new clafers layout before d e n k at s x h = record {
   extends = subst (Extends old new) (sym sum) (extends_trans old mid new (bounds_room clafers layout n) (clafer_cost clafers layout n k) s.extends x);
   demanded = demanded_same old new layout before e (λ bits. clafers_test clafers layout n bits && clafer_test clafers layout n k bits) (clafers_test clafers layout (n + 1))
       (λ bits.
-          ap (λ b. clafers_test clafers layout n bits && b) (sym (ap (λ o. option_map_or (λ j. have_times clafers layout bits n j && have_group clafers layout bits n j) o true) at))
-          ∙ sym (ap (list_all (met bits)) (numbers-push n) ∙ list_all-push (met bits) (numbers_below n) n))
+      ap (λ b. clafers_test clafers layout n bits && b) (sym (ap (λ o. option_map_or (λ j. have_times clafers layout bits n j && have_group clafers layout bits n j) o true) at))
+      ∙ sym (ap (list_all (met bits)) (numbers-push n) ∙ list_all-push (met bits) (numbers_below n) n))
       (demanded_both old mid new layout before d e (clafers_test clafers layout n) (clafer_test clafers layout n k) s.demanded h);
 }
   where

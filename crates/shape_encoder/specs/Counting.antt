@@ -1,23 +1,22 @@
 -- What multiplicities and groups count, and how far the rules for them have come.
-use Rattle.std.specs.Prelude.{◌≡◌, ◌==◌, ◌+◌, ◌*◌, ◌<◌, ℕ, Bool, true, false, ◌&&◌, ◌||◌, not, List, length, map, min, get_or, slice_get, slice_index_or, nat_lt, Option, Some, None, [], if◌then◌else◌, count_by}
+use Rattle.std.specs.Prelude.{◌≡◌, ◌==◌, ◌+◌, ◌*◌, ◌<◌, ℕ, Bool, false, ◌&&◌, List, length, map, min, get_or, slice_get, slice_index_or, nat_lt, Option, Some, None, [], if◌then◌else◌, count_by}
 use Rattle.std.specs.Option.{option_map_or, option_and_then}
-use Rattle.std.specs.List.{All, filter, list_all, sum_by}
+use Rattle.std.specs.List.{All, filter, sum_by}
 use Rattle.bool_circuit.specs.declared.gate.Wire.{Wire}
 use Rattle.bool_circuit.specs.declared.gate.Gate.{Gate}
-use Rattle.bool_circuit.specs.Circuit.{wire_value, entry, IsWireOf, Extends}
+use Rattle.bool_circuit.specs.Circuit.{entry}
 use Rattle.integer_bits.specs.Totals.{count_true}
 use Rattle.clf_tree.specs.declared.model.Clafer.{Clafer}
 use Rattle.clf_tree.specs.declared.module.Interval.{Interval}
 use Rattle.clf_tree.specs.declared.instance.Node.{Node}
 use Rattle.clf_tree.specs.Lists.{numbers_below}
 use Rattle.clf_tree.specs.Hierarchy.{is_a}
-use Rattle.clf_tree.specs.Shape.{allows}
 use Rattle.int_widths.specs.Weight.{is_any}
 use Rattle.set_bits.specs.declared.layout.Edge.{Edge}
 use Rattle.set_bits.specs.declared.layout.Layout.{Layout}
 use Rattle.set_bits.specs.Fitting.{slot_clafer}
 use Rattle.shown_instance.specs.Shown.{is_live}
-use Rattle.shown_instance.specs.Bounds.{is_declared_under, children_below, have_times, have_group}
+use Rattle.shown_instance.specs.Bounds.{is_declared_under}
 use Rattle.shape_encoder.specs.Reading.{IsBit, range_cost}
 use Rattle.shape_encoder.specs.declared.counted.Counted.{Counted}
 use Rattle.shape_encoder.specs.declared.counted.Counted.TheVariants.{Instances, DeclaredUnder}

@@ -1,5 +1,5 @@
 -- What is demanded of bits, rule by rule: a wire that has to be true, and slots that cannot be live.
-use Rattle.std.specs.Prelude.{◌≡◌, ◌+◌, ◌*◌, ◌<◌, ℕ, Bool, true, false, ◌&&◌, ◌||◌, not, List, length, slice_get, if◌then◌else◌}
+use Rattle.std.specs.Prelude.{◌≡◌, ◌*◌, ℕ, Bool, true, false, ◌&&◌, ◌||◌, not, List, length, slice_get, if◌then◌else◌}
 use Rattle.std.specs.Option.{option_map_or}
 use Rattle.std.specs.List.{list_all}
 use Rattle.bool_circuit.specs.declared.gate.Wire.{Wire}

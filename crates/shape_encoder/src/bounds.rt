@@ -186,7 +186,14 @@ pub fn have_bounds(
 {
     let children = children_of(alloc, layout)?;
     let mut demands = no_demands(alloc, circuit, layout)?;
-    demand_all(alloc, circuit, &core.clafers, layout, &children, &mut demands)?;
+    demand_all(
+        alloc,
+        circuit,
+        &core.clafers,
+        layout,
+        &children,
+        &mut demands,
+    )?;
     let wire = are_met(circuit, layout, &demands)?;
     Ok(wire)
 }

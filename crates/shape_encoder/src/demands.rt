@@ -165,12 +165,7 @@ pub(crate) fn demand(
 }
 
 // Whether a wire is true, and a slot isn't live if it cannot be.
-fn and_dead(
-    circuit: &mut Circuit,
-    all: Wire,
-    live: Wire,
-    is_dead: bool,
-) -> Result<Wire, NoMemory>
+fn and_dead(circuit: &mut Circuit, all: Wire, live: Wire, is_dead: bool) -> Result<Wire, NoMemory>
     requires all_in { IsWireOf circuit.old all }
     requires live_in { IsWireOf circuit.old live }
     requires room { length circuit.old + 2 ≤ MOST_WIRES }
@@ -187,11 +182,7 @@ fn and_dead(
 }
 
 // Whether the demanded wire is true, and no slot is live that cannot be.
-fn all_dead(
-    circuit: &mut Circuit,
-    layout: &Layout,
-    demands: &Demands,
-) -> Result<Wire, NoMemory>
+fn all_dead(circuit: &mut Circuit, layout: &Layout, demands: &Demands) -> Result<Wire, NoMemory>
     requires slots { length layout.now.live ≡ length layout.now.slots }
     requires live_bits { All (IsBit circuit.old) layout.now.live }
     requires demands { AreDemands circuit.old layout.now demands.now }

@@ -1,4 +1,4 @@
-use Rattle.std.proofs.Common.{length, arith, ◌∙◌}
+use Rattle.std.proofs.Common.{arith, ◌∙◌}
 use Rattle.bool_circuit.specs.Circuit.{wire_values}
 use Rattle.integer_bits.specs.Totals.{count_true}
 use Rattle.shape_encoder.proofs.Allowing.{wires_within, low_of_sum}

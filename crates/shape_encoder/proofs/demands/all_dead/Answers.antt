@@ -1,4 +1,4 @@
-use Rattle.std.proofs.Common.{length, false, ◌∙◌, arith}
+use Rattle.std.proofs.Common.{false, arith}
 use Rattle.std.proofs.lemmas.List.{get_or_read}
 use Rattle.shape_encoder.proofs.Demanded.{met_more}
 use Rattle.shape_encoder.proofs.demands.all_dead.Goals as goal

@@ -1,5 +1,4 @@
-use Rattle.std.proofs.Common.{length, subst}
-use Rattle.bool_circuit.specs.Circuit.{Extends}
+use Rattle.std.proofs.Common.{length}
 use Rattle.clf_tree.specs.Shape.{allows}
 use Rattle.shown_instance.specs.Bounds.{live_slots}
 use Rattle.shape_encoder.specs.Counting.{is_marked, counted_cost, most_counted}
