@@ -14,13 +14,11 @@ use Rattle.clf_tree.specs.declared.module.Interval.{Interval}
 use Rattle.clf_tree.specs.Shape.{allows}
 use Rattle.shape_encoder.specs.Counting.{clipped}
 use Rattle.std.specs.Prelude.{pos, int_le}
-use Rattle.std.proofs.Math.Nat.{mul-le-mul_left}
 use Rattle.std.proofs.Common.{to_z, of_z}
 use mir.Syntax.{w128}
 use Rattle.std.proofs.lemmas.Int.{ints, to_z-of_z}
 use Rattle.integer_bits.specs.Numbers.{integer_of, integer_at, FitsBits}
 use Rattle.bool_circuit.proofs.Extending.{extends_trans}
-use Rattle.shape_encoder.specs.Counting.{counted_cost, sum_cost}
 
 count_within : (bs : List Bool) → count_true bs ≤ length bs
 count_within [] = omega arith
@@ -61,14 +59,9 @@ between_told old first second new ws low high m n enough few wire all x y w ev f
     v bits ∙ ap (λ b. b && wire_value second few bits) (y.keeps enough w bits ∙ ev bits)
     ∙ ap (λ b. nat_le low (count_true (wire_values old ws bits)) && b) (fv bits ∙ ap (λ bs. nat_le (count_true bs) high) (wire_values_stay old first m ws bits x all))
 
--- ---- how many wires they add
-
 -- ---- large counts
 
-pub sum_fits : (n u : ℕ) → 64 ≤ u → u ≤ n → sum_cost n ≤ counted_cost n u
-sum_fits n u h l = let p = mul-le-mul_left {m = 65} {n = u + 1} n (omega (arith, h)) in omega (arith, p, h, l)
-
-pub fits_eleven : (m : ℕ) → m ≤ 1023 → FitsBits 11 (pos m)
+fits_eleven : (m : ℕ) → m ≤ 1023 → FitsBits 11 (pos m)
 fits_eleven m h = record { low = omega (arith, ints); high = omega (arith, ints, h) }
 
 -- a small number that is passed on

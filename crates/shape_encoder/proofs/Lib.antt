@@ -2,6 +2,7 @@ pub mod Allowing
 pub mod Bounding
 pub mod Compared
 pub mod Costs
+pub mod Demanded
 pub mod Laid
 pub mod Led
 pub mod Marking

@@ -1,22 +1,22 @@
 -- What multiplicities and groups count, and how far the rules for them have come.
-use Rattle.std.specs.Prelude.{◌≡◌, ◌==◌, ◌+◌, ◌*◌, ◌<◌, ℕ, Bool, true, false, ◌&&◌, ◌||◌, not, List, length, map, min, get_or, slice_get, slice_index_or, nat_lt, Option, Some, None, [], if◌then◌else◌, count_by}
+use Rattle.std.specs.Prelude.{◌≡◌, ◌==◌, ◌+◌, ◌*◌, ◌<◌, ℕ, Bool, false, ◌&&◌, List, length, map, min, get_or, slice_get, slice_index_or, nat_lt, Option, Some, None, [], if◌then◌else◌, count_by}
 use Rattle.std.specs.Option.{option_map_or, option_and_then}
-use Rattle.std.specs.List.{All, filter, list_all, sum_by}
+use Rattle.std.specs.List.{All, filter, sum_by}
 use Rattle.bool_circuit.specs.declared.gate.Wire.{Wire}
 use Rattle.bool_circuit.specs.declared.gate.Gate.{Gate}
-use Rattle.bool_circuit.specs.Circuit.{wire_value, entry, IsWireOf, Extends}
+use Rattle.bool_circuit.specs.Circuit.{entry}
 use Rattle.integer_bits.specs.Totals.{count_true}
 use Rattle.clf_tree.specs.declared.model.Clafer.{Clafer}
 use Rattle.clf_tree.specs.declared.module.Interval.{Interval}
 use Rattle.clf_tree.specs.declared.instance.Node.{Node}
 use Rattle.clf_tree.specs.Lists.{numbers_below}
 use Rattle.clf_tree.specs.Hierarchy.{is_a}
-use Rattle.clf_tree.specs.Shape.{allows}
+use Rattle.int_widths.specs.Weight.{is_any}
 use Rattle.set_bits.specs.declared.layout.Edge.{Edge}
 use Rattle.set_bits.specs.declared.layout.Layout.{Layout}
 use Rattle.set_bits.specs.Fitting.{slot_clafer}
 use Rattle.shown_instance.specs.Shown.{is_live}
-use Rattle.shown_instance.specs.Bounds.{is_declared_under, children_below, have_times, have_group}
+use Rattle.shown_instance.specs.Bounds.{is_declared_under}
 use Rattle.shape_encoder.specs.Reading.{IsBit, range_cost}
 use Rattle.shape_encoder.specs.declared.counted.Counted.{Counted}
 use Rattle.shape_encoder.specs.declared.counted.Counted.TheVariants.{Instances, DeclaredUnder}
@@ -66,17 +66,17 @@ clipped high n = option_and_then (λ h. if nat_lt h n then Some h else None) hig
 abbrev pub most_counted : Interval → ℕ → ℕ
 most_counted interval n = min n (option_map_or (λ high. high) interval.high interval.low)
 
--- for counting n wires up to u
+-- for counting n wires up to u, and demanding what they tell
 abbrev pub counted_cost : ℕ → ℕ → ℕ
-counted_cost n u = 8 * (n * (u + 1)) + 10
+counted_cost n u = 8 * (n * (u + 1))
 
 -- for summing up n wires on eleven bits, and comparing the sum with two bounds
 abbrev pub sum_cost : ℕ → ℕ
 sum_cost n = 32 * ((n + 1) * (11 + 1)) + 2 + 2 + range_cost 11 11 11
 
--- for a slot with n children that are counted
+-- for n nodes that are counted
 abbrev pub slot_cost : Interval → ℕ → ℕ
-slot_cost interval n = counted_cost n (most_counted interval n) + 4
+slot_cost interval n = if is_any interval then 0 else 8 * (n * (most_counted interval n + 1))
 
 -- how many children that are counted a slot may have
 abbrev pub child_slots : Layout → (ℕ → Bool) → ℕ → ℕ
@@ -84,14 +84,14 @@ child_slots layout asked s = count_by (λ e. (e.to == s) && asked (slot_clafer l
 
 -- for the first n slots, where those of some clafers count their children
 abbrev pub each_cost : Layout → (ℕ → Bool) → (ℕ → Bool) → Interval → ℕ → ℕ
-each_cost layout of asked interval n = sum_by (λ s. if of (slot_clafer layout.slots s) then slot_cost interval (child_slots layout asked s) + 1 else 0) (numbers_below n) + 1
+each_cost layout of asked interval n = sum_by (λ s. if of (slot_clafer layout.slots s) then slot_cost interval (child_slots layout asked s) else 0) (numbers_below n)
 
 -- where the slots themselves are counted
 abbrev pub counted_slots : Layout → (ℕ → Bool) → ℕ
 counted_slots layout asked = count_by (λ i. asked (slot_clafer layout.slots i)) (numbers_below (length layout.slots))
 
 abbrev pub whole_cost : Layout → (ℕ → Bool) → Interval → ℕ
-whole_cost layout asked interval = counted_cost (counted_slots layout asked) (most_counted interval (counted_slots layout asked))
+whole_cost layout asked interval = slot_cost interval (counted_slots layout asked)
 
 module _ (clafers : List Clafer) (layout : Layout) where
   -- for the multiplicity of the clafer k, with number c, and for its group
@@ -102,25 +102,12 @@ module _ (clafers : List Clafer) (layout : Layout) where
   group_cost c k = each_cost layout (λ d. is_a clafers d c) (is_declared_under clafers c) k.group (length layout.slots)
 
   abbrev pub clafer_cost : ℕ → Clafer → ℕ
-  clafer_cost c k = times_cost c k + group_cost c k + 1
+  clafer_cost c k = times_cost c k + group_cost c k
 
-  -- for the first n clafers, and for all
+  -- for the first n clafers
   abbrev pub bounds_room : ℕ → ℕ
-  bounds_room n = sum_by (λ c. option_map_or (λ k. clafer_cost c k + 1) (slice_get clafers c) 0) (numbers_below n) + 1
+  bounds_room n = sum_by (λ c. option_map_or (clafer_cost c) (slice_get clafers c) 0) (numbers_below n)
 
+  -- for all, and the slots that cannot be live
   abbrev pub bounds_cost : ℕ
-  bounds_cost = bounds_room (length clafers)
-
--- ---- how far the loops are
-
--- a wire that is true where each of the first n slots of some clafers that is live has as many counted children as are allowed
-pub record EachAllowedSoFar (old : List Gate) (layout : Layout) (of asked : ℕ → Bool) (interval : Interval) (n : ℕ) (new : List Gate) (wire : Wire) : Type 0 where
-  pub extends : Extends old new (each_cost layout of asked interval n)
-  pub is_wire : IsWireOf new wire
-  pub value : (bits : List Bool) → wire_value new wire bits ≡ list_all (λ s. not (is_live layout bits s && of (slot_clafer layout.slots s)) || allows interval (children_below layout bits asked s)) (numbers_below n)
-
--- a wire that is true where the bounds of the first n clafers are met
-pub record HaveBoundsSoFar (old : List Gate) (clafers : List Clafer) (layout : Layout) (n : ℕ) (new : List Gate) (wire : Wire) : Type 0 where
-  pub extends : Extends old new (bounds_room clafers layout n)
-  pub is_wire : IsWireOf new wire
-  pub value : (bits : List Bool) → wire_value new wire bits ≡ list_all (λ c. option_map_or (λ k. have_times clafers layout bits c k && have_group clafers layout bits c k) (slice_get clafers c) true) (numbers_below n)
+  bounds_cost = bounds_room (length clafers) + 2 * length layout.slots + 3

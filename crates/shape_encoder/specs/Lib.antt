@@ -1,5 +1,6 @@
 pub mod Comparing
 pub mod Counting
+pub mod Demanding
 pub mod Placing
 pub mod Reading
 pub mod Taking

@@ -1,21 +1,6 @@
-use Rattle.std.proofs.Common.{◌+◌, ◌*◌, ◌≤◌, length, arith}
-use Rattle.bool_circuit.proofs.Extending.{extends_within}
-use Rattle.shape_encoder.specs.Counting.{counted_cost, sum_cost}
-use Rattle.shape_encoder.proofs.Allowing.{between_told, sum_fits}
+use Rattle.std.proofs.Common.{◌+◌, ◌*◌, length}
+use Rattle.shape_encoder.proofs.Allowing.{between_told}
 use Rattle.shape_encoder.proofs.amounts.are_between.Goals as goal
-
-pub sum_is_between-requires-clause-room : goal.sum_is_between-requires-clause-room
-sum_is_between-requires-clause-room c = omega (arith, c.requires.room, sum_fits (length c.args.wires.now) c.args.high (c.are_large.ensures c.if-are_large.true).0 (omega (arith, c.requires.clipped)))
-
-pub returns-in_err-summed-clause-extends : goal.returns-in_err-summed-clause-extends
-returns-in_err-summed-clause-extends c =
-    extends_within c.args.circuit.now c.sum_is_between.new.circuit (sum_cost (length c.args.wires.now)) (counted_cost (length c.args.wires.now) c.args.high)
-    (sum_fits (length c.args.wires.now) c.args.high (c.are_large.ensures c.if-are_large.true).0 (omega (arith, c.requires.clipped))) c.in_err-summed.ensures.extends
-
-pub returns-then-are_large-clause-extends : goal.returns-then-are_large-clause-extends
-returns-then-are_large-clause-extends c =
-    extends_within c.args.circuit.now c.sum_is_between.new.circuit (sum_cost (length c.args.wires.now)) (counted_cost (length c.args.wires.now) c.args.high)
-    (sum_fits (length c.args.wires.now) c.args.high (c.are_large.ensures c.if-are_large.true).0 (omega (arith, c.requires.clipped))) c.in_ok-summed.ensures.extends
 
 pub returns-clause-value : goal.returns-clause-value
 returns-clause-value c =

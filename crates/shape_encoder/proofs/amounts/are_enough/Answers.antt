@@ -1,13 +1,8 @@
-use Rattle.std.proofs.Common.{length, arith, ◌∙◌}
+use Rattle.std.proofs.Common.{arith, ◌∙◌}
 use Rattle.bool_circuit.specs.Circuit.{wire_values}
 use Rattle.integer_bits.specs.Totals.{count_true}
-use Rattle.shape_encoder.proofs.Allowing.{too_many, wires_within, low_of_sum}
+use Rattle.shape_encoder.proofs.Allowing.{wires_within, low_of_sum}
 use Rattle.shape_encoder.proofs.amounts.are_enough.Goals as goal
-
-pub returns-then-low-len-clause-value : goal.returns-then-low-len-clause-value
-returns-then-low-len-clause-value c = λ bits.
-    c.in_ok-never.ensures.value bits
-    ∙ too_many c.args.low (length c.args.wires.now) (count_true (wire_values c.args.circuit.now c.args.wires.now bits)) (omega (arith, c.len.ensures)) (wires_within c.args.circuit.now c.args.wires.now bits)
 
 pub returns-then-is_large-clause-value : goal.returns-then-is_large-clause-value
 returns-then-is_large-clause-value c = λ bits.

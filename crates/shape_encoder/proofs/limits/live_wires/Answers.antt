@@ -1,8 +1,8 @@
 use Rattle.std.proofs.Common.{◌+◌, sym, subst, ◌∙◌}
 use Rattle.shape_encoder.specs.Counting.{is_marked, AreCountedLive}
 use Rattle.shape_encoder.proofs.Bounding.{live_more, live_skips}
-use Rattle.shape_encoder.proofs.bounds.live_wires.Goals as goal
-use Rattle.shape_encoder.proofs.bounds.live_wires.Goals.{then-is_marked+in_ok-push, else-is_marked}
+use Rattle.shape_encoder.proofs.limits.live_wires.Goals as goal
+use Rattle.shape_encoder.proofs.limits.live_wires.Goals.{then-is_marked+in_ok-push, else-is_marked}
 
 pub loop-slot-preserved : goal.loop-slot-preserved
 loop-slot-preserved c = elim c.if-is_marked.branch [
