@@ -7,7 +7,7 @@ ghost use Rattle.set_bits.specs.declared.layout.Edge.{Edge as AnEdge};
 ghost use Rattle.set_bits.specs.Sets.{is_here};
 ghost use Rattle.set_bits.specs.Reaching.{IsTableOf};
 ghost use Rattle.shape_encoder.specs.Reading.{IsBit};
-ghost use Rattle.shape_encoder.specs.Comparing.{HoldsBy, HoldsEdges, clafer_from, IsJoinedSoFar, turned_from, IsTiedBy};
+ghost use Rattle.shape_encoder.specs.Comparing.{HoldsBy, HoldsEdges, clafer_from, IsJoinedSoFar, turned_from, IsMadeOf, IsTiedBy};
 
 use crate::taking::{take_edges, wire_of};
 use bool_circuit::{Circuit, MOST_WIRES, Wire};
@@ -120,6 +120,7 @@ pub(crate) fn tie(
 ) -> Result<Vec<Option<Wire>>, NoMemory>
     requires bits { All (λ e. IsBit circuit.old e.here) edges.now }
     requires room { length circuit.old + (4 * length edges.now + 1) ≤ MOST_WIRES }
+    ensures made { IfOk result (λ table. IsMadeOf circuit.new edges.now table.items) }
     ensures tied { IfOk result (λ table. (all : Items AnEdge) (slot : ℕ) → edges.now ≡ turned_from all slot → IsTiedBy circuit.new all slot table.items) }
     ensures extends { Extends circuit.old circuit.new (4 * length edges.now + 1) }
 {
