@@ -222,3 +222,7 @@ told_slot clafers layout i n told get t f = ap (tells_apart clafers) (clafer_at 
 -- a cost under another name
 pub costs_same : (old new : List Gate) (m n : ℕ) → m ≡ n → Extends old new m → Extends old new n
 costs_same old new m n e x = subst (Extends old new) e x
+
+-- one step more, within the cost of all
+pub costs_within : (old mid new : List Gate) (m n total : ℕ) → m + n ≤ total → Extends old mid m → Extends mid new n → Extends old new total
+costs_within old mid new m n total h x y = extends_within old new (m + n) total h (extends_trans old mid new m n x y)

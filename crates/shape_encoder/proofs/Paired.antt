@@ -12,9 +12,9 @@ use Rattle.clf_tree.specs.Lists.{numbers_below, each_two}
 use Rattle.set_bits.specs.declared.layout.Edge.{Edge}
 use Rattle.shape_encoder.specs.Reading.{IsBit}
 use Rattle.shape_encoder.specs.Comparing.{list_at, joins, meet, IsMadeOf, AreTies, are_twins, twin_cost, place_cost, twins_cost, HasNoTwinSoFar, AreAloneSoFar}
-use Rattle.shape_encoder.proofs.Steps.{and_true, list_all-push, all_item, take_item, sum-push, bit_stays}
+use Rattle.shape_encoder.proofs.Steps.{and_true, list_all-push, all_item, take_item, sum-push, sum-before, bit_stays}
 use Rattle.shape_encoder.proofs.Taken.{each_two-push}
-use Rattle.shape_encoder.proofs.Compared.{made_stays, joined_meet, sum_below-push}
+use Rattle.shape_encoder.proofs.Compared.{made_stays, joined_meet, sum_below-push, sum_below-room}
 
 -- a circuit adds nothing to itself
 pub nothing_more : (gates : List Gate) → Extends gates gates 0
@@ -97,6 +97,14 @@ twins_more parents targets old mid new kin ups ontos n earlier up onto ps ts all
     cost : 2 * length ps + 2 * length ts + 5 ≡ twin_cost parents targets earlier
     cost = ap (λ es. 2 * length es + 2 * length ts + 5) p ∙ ap (λ es. 2 * length (list_at parents earlier) + 2 * length es + 5) t
 
+-- a pair within the cost of all
+pub twin_within : (parents targets : List (List Edge)) (kin : List ℕ) (n place earlier : ℕ) (ps ts : List Edge) → slice_get kin n ≡ Some earlier → n < place → ps ≡ list_at parents earlier → ts ≡ list_at targets earlier
+    → sum_by (twin_cost parents targets) (take n kin) + (2 * length ps + 2 * length ts + 5) ≤ sum_by (twin_cost parents targets) (take place kin)
+twin_within parents targets kin n place earlier ps ts get l p t =
+    let r = sum-before (twin_cost parents targets) kin n place earlier get l in
+    let f : 2 * length ps + 2 * length ts + 5 ≡ twin_cost parents targets earlier = ap (λ es. 2 * length es + 2 * length ts + 5) p ∙ ap (λ es. 2 * length (list_at parents earlier) + 2 * length es + 5) t in
+    omega (arith, r, f)
+
 -- ---- a slot
 
 -- the cost of a slot by the lists of its edges
@@ -134,3 +142,6 @@ alone_more parents targets old mid new kin all n cost more total right wire l h 
 
 pub twins_cost-push : (parents targets : List (List Edge)) (kin : List ℕ) (n : ℕ) → twins_cost parents targets kin (n + 1) ≡ twins_cost parents targets kin n + place_cost parents targets kin n
 twins_cost-push parents targets kin n = sum_below-push (place_cost parents targets kin) n
+
+pub twins_cost-room : (parents targets : List (List Edge)) (kin : List ℕ) (n : ℕ) → n < length kin → twins_cost parents targets kin n + place_cost parents targets kin n ≤ twins_cost parents targets kin (length kin)
+twins_cost-room parents targets kin n l = sum_below-room (place_cost parents targets kin) n (length kin) l

@@ -7,8 +7,9 @@ use Rattle.std.specs.declared.vec.Vec.{Vec}
 use Rattle.std.proofs.lemmas.Bool.{cases_eq}
 use Rattle.std.proofs.lemmas.Bool.Decides.{eqb_tells}
 use Rattle.std.proofs.lemmas.Grind.{common_steps}
+use Rattle.std.proofs.lemmas.List.{take_all}
 use Rattle.std.proofs.lemmas.List.Folds.{list_any-append}
-use Rattle.std.proofs.lemmas.Option.{slice_get_within}
+use Rattle.std.proofs.lemmas.Option.{slice_get_within, slice_get_past, slice_get-get_or}
 use Rattle.bool_circuit.specs.declared.gate.Wire.{Wire}
 use Rattle.bool_circuit.specs.declared.gate.Gate.{Gate}
 use Rattle.bool_circuit.specs.Circuit.{wire_value, entry, IsWireOf, Extends}
@@ -21,7 +22,7 @@ use Rattle.shown_instance.specs.Shown.{is_taken}
 use Rattle.shown_instance.specs.Consistent.{has_taken}
 use Rattle.shape_encoder.specs.Reading.{IsBit}
 use Rattle.shape_encoder.specs.Comparing.{list_at, joins, meet, row_at, is_seen, AreRowsOf, is_met, HaveMetSoFar, IsMarkedSoFar, AreMarkedSoFar, AreTies, are_twins, is_below_onto, counted_cost, siblings_cost, AreAloneSoFar, AreCountedSoFar}
-use Rattle.shape_encoder.proofs.Steps.{and_true, list_all-push, all_item, take_item, sum-push, bit_stays}
+use Rattle.shape_encoder.proofs.Steps.{and_true, list_all-push, all_item, take_item, sum-push, sum-room}
 use Rattle.shape_encoder.proofs.Compared.{any_same, wire_stays, table_stays}
 use Rattle.shape_encoder.proofs.Paired.{alone_more, slot_is, none_alone}
 
@@ -99,8 +100,12 @@ module _ {A : Type 0} where
   pub row_is : (rows : List (Vec (Option Wire) A)) (p : ℕ) (row : Vec (Option Wire) A) → slice_get rows p ≡ Some row → row_at rows p ≡ row.items
   row_is rows p row e = ap (λ o. option_map_or (λ (r : Vec (Option Wire) A). r.items) o []) e
 
-  pub no_row : (rows : List (Vec (Option Wire) A)) (p : ℕ) → slice_get rows p ≡ None → row_at rows p ≡ []
-  no_row rows p e = ap (λ o. option_map_or (λ (r : Vec (Option Wire) A). r.items) o []) e
+  pub row_here : (rows : List (Vec (Option Wire) A)) (p : ℕ) (row : Vec (Option Wire) A) → p < length rows → row ≡ get_or rows p row → row_at rows p ≡ row.items
+  row_here rows p row l e = row_is rows p (get_or rows p row) (slice_get-get_or rows p row l) ∙ ap (λ (r : Vec (Option Wire) A). r.items) (sym e)
+
+  -- nothing is seen below a parent that has no row
+  pub no_row : (gates : List Gate) (rows : List (Vec (Option Wire) A)) (p : ℕ) (bits : List Bool) (ts : List Edge) → length rows ≤ p → list_any (joins gates (row_at rows p) bits) ts ≡ false
+  no_row gates rows p bits ts l = ap (λ o. list_any (joins gates (option_map_or (λ (r : Vec (Option Wire) A). r.items) o []) bits) ts) (slice_get_past rows p l) ∙ no_joins gates bits ts
 
   pub rows_stay : (old new : List Gate) (n : ℕ) (rows : List (Vec (Option Wire) A)) → Extends old new n → AreRowsOf old rows → AreRowsOf new rows
   rows_stay old new n rows x r = record { at = λ p. table_stays old new n (row_at rows p) x (r.at p) }
@@ -186,8 +191,8 @@ module _ {A : Type 0} where
     pub value : (bits : List Bool) (p t : ℕ) → is_seen new after bits p t ≡ (is_seen old before bits p t || ((nat_eq e.from p && wire_value old e.here bits) && has_taken targets bits t))
 
   pub row_marked : (old new : List Gate) (before mid : List (Vec (Option Wire) A)) (e : Edge) (targets : List Edge) (was row : Vec (Option Wire) A) → ((p : ℕ) → row_at mid p ≡ row_at before p) → e.from < length mid → row_at mid e.from ≡ was.items
-      → AreRowsOf old before → IsMarkedSoFar old e.here targets was.items (length targets) new row.items → take (length targets) targets ≡ targets → IsRowMarked old before e targets new (set mid e.from row)
-  row_marked old new before mid e targets was row same l old_row r m whole = record {
+      → AreRowsOf old before → IsMarkedSoFar old e.here targets was.items (length targets) new row.items → IsRowMarked old before e targets new (set mid e.from row)
+  row_marked old new before mid e targets was row same l old_row r m = record {
     rows = record { at = λ p. elim (cases_eq p e.from) [
       | inl s ↦ subst (IsTableOf new) (sym (ap (row_at (set mid e.from row)) s ∙ set_same mid e.from row l)) m.wires
       | inr o ↦ subst (IsTableOf new) (sym (set_other mid e.from p row o ∙ same p)) (table_stays old new (2 * length targets) (row_at before p) m.extends (r.at p))
@@ -196,7 +201,7 @@ module _ {A : Type 0} where
       | inl s ↦
           ap (λ k. is_here new (wire_at (row_at (set mid e.from row) k) t) bits) s ∙ ap (λ xs. is_here new (wire_at xs t) bits) (set_same mid e.from row l) ∙ m.value bits t
           ∙ ap (λ xs. is_here old (wire_at xs t) bits || (wire_value old e.here bits && has_taken (take (length targets) targets) bits t)) (sym old_row ∙ same e.from)
-          ∙ ap (λ es. is_seen old before bits e.from t || (wire_value old e.here bits && has_taken es bits t)) whole
+          ∙ ap (λ es. is_seen old before bits e.from t || (wire_value old e.here bits && has_taken es bits t)) (take_all (length targets) targets (omega arith))
           ∙ sym (ap (λ k. is_seen old before bits k t || ((nat_eq e.from k && wire_value old e.here bits) && has_taken targets bits t)) s ∙ ap (λ b. is_seen old before bits e.from t || ((b && wire_value old e.here bits) && has_taken targets bits t)) (itself e.from))
       | inr o ↦
           ap (λ xs. is_here new (wire_at xs t) bits) (set_other mid e.from p row o ∙ same p) ∙ here_stays (2 * length targets) old new (wire_at (row_at before p) t) bits m.extends ((r.at p).wires t)
@@ -301,3 +306,11 @@ module _ {A : Type 0} where
         ∙ sym (ap (list_any (is_below_onto parents targets bits q k)) (take_item kin n slot get) ∙ list_any-append (is_below_onto parents targets bits q k) (take n kin) (slot ∷ [])
         ∙ ap (λ b. list_any (is_below_onto parents targets bits q k) (take n kin) || b) (or_false (is_below_onto parents targets bits q k slot)));
   }
+
+-- a slot within the cost of all
+pub counted_within : (parents targets : List (List Edge)) (kin : List ℕ) (n slot : ℕ) (ps ts : List Edge) → slice_get kin n ≡ Some slot → ps ≡ list_at parents slot → ts ≡ list_at targets slot
+    → siblings_cost parents targets (take n kin) + (length ps * (4 * length ts + 3) + 3) ≤ siblings_cost parents targets kin
+counted_within parents targets kin n slot ps ts get p t =
+    let r = sum-room (counted_cost parents targets) kin n slot get in
+    let f : length ps * (4 * length ts + 3) + 3 ≡ counted_cost parents targets slot = ap (λ es. length es * (4 * length ts + 3) + 3) p ∙ ap (λ es. length (list_at parents slot) * (4 * length es + 3) + 3) t in
+    omega (arith, r, f)

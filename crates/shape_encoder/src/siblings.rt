@@ -33,16 +33,13 @@ fn join_row(
     ensures value { IfOk result (λ w. (bits : Items Bool) → wire_value circuit.new w bits ≡ list_any (joins circuit.old (row_at rows.now.items parent) bits) targets.now) }
     ensures extends { Extends circuit.old circuit.new (2 * length targets.now + 1) }
 {
-    match rows.get(parent) {
-        Some(row) => {
-            let joined = join(circuit, row, targets)?;
-            Ok(joined)
-        }
-        None => {
-            let nothing = circuit.constant(false)?;
-            Ok(nothing)
-        }
+    if parent >= rows.len() {
+        let nothing = circuit.constant(false)?;
+        return Ok(nothing);
     }
+    let row = &rows[parent];
+    let joined = join(circuit, row, targets)?;
+    Ok(joined)
 }
 
 // True where `some` is, or an edge to a parent is taken below which one of the targets was seen.
