@@ -94,7 +94,7 @@ fn are_counted(ties: &Ties, kin: &List<usize>) -> bool
 }
 
 // True where `all` is and no two of some slots have one parent and one target.
-fn and_alone(
+fn and_no_two(
     alloc: Global,
     circuit: &mut Circuit,
     ties: &Ties,
@@ -140,7 +140,7 @@ fn and_kin(
     if !is_paired(clafers, clafer) {
         return Ok(all);
     }
-    let right = and_alone(alloc, circuit, ties, kin, all)?;
+    let right = and_no_two(alloc, circuit, ties, kin, all)?;
     Ok(right)
 }
 
