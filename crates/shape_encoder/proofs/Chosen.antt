@@ -25,7 +25,7 @@ use Rattle.shown_instance.proofs.Placing.{same_truth, implied}
 use Rattle.shown_instance.proofs.Whole.{numbers_at, numbers_from}
 use Rattle.shown_instance.proofs.Differing.{each_from, each_at, implies}
 use Rattle.shape_encoder.specs.Reading.{IsBit}
-use Rattle.shape_encoder.specs.Comparing.{list_at, turned_from, HoldsEdges, IsOrdered, kin_below, kin_of, kin_differ, nested_differ, is_paired, meet, AreTies, are_twins, twin_cost, place_cost, twins_cost, counted_cost, siblings_cost, told, AreCostsSoFar, AreAloneSoFar, KinDifferSoFar, NestedDiffer, pairs_cost, alone_cost, sibling_cost, kin_cost, kins_cost}
+use Rattle.shape_encoder.specs.Comparing.{list_at, turned_from, HoldsEdges, IsOrdered, kin_below, kin_of, kin_differ, nested_differ, is_paired, meet, AreTies, are_twins, twin_cost, place_cost, twins_cost, counted_cost, siblings_cost, told, AreCostsSoFar, AreAloneSoFar, KinDifferSoFar, NestedDiffer, pairs_cost, compared_cost, sibling_cost, kin_cost, kins_cost}
 use Rattle.shape_encoder.proofs.Steps.{and_true, kept_two, list_all-push, numbers-push, sum-push}
 use Rattle.shape_encoder.proofs.Compared.{any_same, turned_any, list_bits, same_is, same_number, or_true, others_differ, unpaired_differ, paired_differ, cost_step, sum_below-push}
 use Rattle.shape_encoder.proofs.Grouped.{kin_known, kin_clafers, kin_before, sum_on, pairs_within}
@@ -62,7 +62,7 @@ no_costs parents targets kin = record { counted_is = refl; paired_is = refl; bes
 
 pub costs_more : (parents targets : List (List Edge)) (kin : List ℕ) (n slot counted paired beside counted_next paired_next beside_next : ℕ) (ps ts : List Edge) → slice_get kin n ≡ Some slot → ps ≡ list_at parents slot → ts ≡ list_at targets slot
     → AreCostsSoFar parents targets kin n counted paired beside → counted_next ≡ told (counted + told (length ps * (4 * length ts + 3) + 3))
-    → paired_next ≡ told (paired + told (((4 * length ps + 1) + (4 * length ts + 1)) + (beside + 1) + 1)) → beside_next ≡ told (beside + told (2 * length ps + 2 * length ts + 5))
+    → paired_next ≡ told (paired + told (length ps + length ts + beside)) → beside_next ≡ told (beside + told (2 * length ps + 2 * length ts + 5))
     → AreCostsSoFar parents targets kin (n + 1) counted_next paired_next beside_next
 costs_more parents targets kin n slot counted paired beside counted_next paired_next beside_next ps ts get p t s c d b = record {
   counted_is =
@@ -81,15 +81,13 @@ costs_more parents targets kin n slot counted paired beside counted_next paired_
     before : ℕ
     before = sum_by (twin_cost parents targets) (take n kin)
 
-    moved : (p t b : ℕ) → ((4 * p + 1) + (4 * t + 1)) + (b + 1) + 1 ≡ b + (4 * p + 4 * t + 4)
+    moved : (p t b : ℕ) → p + t + b ≡ b + (p + t)
     moved p t b = omega arith
 
-    own : told (((4 * length ps + 1) + (4 * length ts + 1)) + (beside + 1) + 1) ≡ told (place_cost parents targets kin n)
+    own : told (length ps + length ts + beside) ≡ told (place_cost parents targets kin n)
     own =
-        ap told (moved (length ps) (length ts) beside) ∙ ap (λ x. told (x + (4 * length ps + 4 * length ts + 4))) s.beside_is ∙ capped_add before (4 * length ps + 4 * length ts + 4) (2 ^ 64 - 1)
-        ∙ ap told (sym (moved (length ps) (length ts) before))
-        ∙ ap (λ es. told (((4 * length es + 1) + (4 * length ts + 1)) + (before + 1) + 1)) (p ∙ ap (list_at parents) (sym (slot_is kin n slot get)))
-        ∙ ap (λ es. told (((4 * length (list_at parents (get_or kin n 0)) + 1) + (4 * length es + 1)) + (before + 1) + 1)) (t ∙ ap (list_at targets) (sym (slot_is kin n slot get)))
+        ap told (moved (length ps) (length ts) beside) ∙ ap (λ x. told (x + (length ps + length ts))) s.beside_is ∙ capped_add before (length ps + length ts) (2 ^ 64 - 1) ∙ ap told (sym (moved (length ps) (length ts) before))
+        ∙ ap (λ es. told (length es + length ts + before)) (p ∙ ap (list_at parents) (sym (slot_is kin n slot get))) ∙ ap (λ es. told (length (list_at parents (get_or kin n 0)) + length es + before)) (t ∙ ap (list_at targets) (sym (slot_is kin n slot get)))
 
 pub costs_whole : (parents targets : List (List Edge)) (kin : List ℕ) (counted paired beside : ℕ) → AreCostsSoFar parents targets kin (length kin) counted paired beside
     → nat_lt counted paired ≡ nat_lt (told (siblings_cost parents targets kin)) (told (twins_cost parents targets kin (length kin)))
@@ -155,7 +153,7 @@ module _ (layout : Layout) (parents targets : List (List Edge)) (ps : HoldsEdges
       one : (i : ℕ) → i < length layout.slots → counted_cost parents targets i ≡ sibling_cost layout i
       one i l = ap (λ es. length es * (4 * length (list_at targets i) + 3) + 3) (ps.at i l) ∙ ap (λ es. length (turned_from layout.parents i) * (4 * length es + 3) + 3) (ts.at i l)
 
-  place_cost_here : (c k : ℕ) → k < length (kin_of layout c) → place_cost parents targets (kin_of layout c) k ≡ alone_cost layout (get_or (kin_of layout c) k 0)
+  place_cost_here : (c k : ℕ) → k < length (kin_of layout c) → place_cost parents targets (kin_of layout c) k ≡ compared_cost layout (get_or (kin_of layout c) k 0)
   place_cost_here c k l =
       let i : ℕ = get_or (kin_of layout c) k 0 in
       let known = kin_known layout c k 0 l in
@@ -168,16 +166,16 @@ module _ (layout : Layout) (parents targets : List (List Edge)) (ps : HoldsEdges
       ∙ sym (pairs_within layout c i (kin_clafers layout c k 0 l)) in
       omega (arith, p, t, same)
 
-  pub twins_cost_is : (c : ℕ) → twins_cost parents targets (kin_of layout c) (length (kin_of layout c)) ≡ sum_by (alone_cost layout) (kin_of layout c)
-  twins_cost_is c = so_far (length (kin_of layout c)) (omega arith) ∙ ap (sum_by (alone_cost layout)) (take_all (length (kin_of layout c)) (kin_of layout c) (omega arith))
+  pub twins_cost_is : (c : ℕ) → twins_cost parents targets (kin_of layout c) (length (kin_of layout c)) ≡ sum_by (compared_cost layout) (kin_of layout c)
+  twins_cost_is c = so_far (length (kin_of layout c)) (omega arith) ∙ ap (sum_by (compared_cost layout)) (take_all (length (kin_of layout c)) (kin_of layout c) (omega arith))
     where
-      so_far : (n : ℕ) → n ≤ length (kin_of layout c) → twins_cost parents targets (kin_of layout c) n ≡ sum_by (alone_cost layout) (take n (kin_of layout c))
+      so_far : (n : ℕ) → n ≤ length (kin_of layout c) → twins_cost parents targets (kin_of layout c) n ≡ sum_by (compared_cost layout) (take n (kin_of layout c))
       so_far zero h = refl
       so_far (suc n) h =
           let e : suc n ≡ n + 1 = omega arith in
           let inside : n < length (kin_of layout c) = omega (arith, h) in
           let a = ap (twins_cost parents targets (kin_of layout c)) e ∙ twins_cost-push parents targets (kin_of layout c) n in
-          let b = ap (λ m. sum_by (alone_cost layout) (take m (kin_of layout c))) e ∙ sum-push (alone_cost layout) (kin_of layout c) n (get_or (kin_of layout c) n 0) (at n inside) in
+          let b = ap (λ m. sum_by (compared_cost layout) (take m (kin_of layout c))) e ∙ sum-push (compared_cost layout) (kin_of layout c) n (get_or (kin_of layout c) n 0) (at n inside) in
           let r = so_far n (omega (arith, h)) in
           let p = place_cost_here c n inside in
           omega (arith, a, b, r, p)
@@ -241,7 +239,7 @@ pub kin_cost_is : (clafers : List Clafer) (layout : Layout) (parents targets : L
 kin_cost_is clafers layout parents targets c kin e same ps ts =
     ap (λ xs. min (siblings_cost parents targets xs) (twins_cost parents targets xs (length xs))) same
     ∙ ap (λ n. min n (twins_cost parents targets (kin_of layout c) (length (kin_of layout c)))) (siblings_cost_is layout parents targets ps ts c) ∙ ap (min (sum_by (sibling_cost layout) (kin_of layout c))) (twins_cost_is layout parents targets ps ts c)
-    ∙ sym (ap (λ b. cond b (min (sum_by (sibling_cost layout) (kin_of layout c)) (sum_by (alone_cost layout) (kin_of layout c))) 0) e)
+    ∙ sym (ap (λ b. cond b (min (sum_by (sibling_cost layout) (kin_of layout c)) (sum_by (compared_cost layout) (kin_of layout c))) 0) e)
 
 -- ---- all clafers
 

@@ -1,11 +1,12 @@
 -- Slots that are compared with each other, one after another.
-use Rattle.std.proofs.Common.{◌≡◌, ℕ, zero, suc, ◌+◌, ◌*◌, ◌<◌, ◌≤◌, Bool, true, false, cond, not, ◌&&◌, ◌||◌, List, [], ◌∷◌, length, map, get_or, Option, Some, None, refl, sym, ap, ◌∙◌, subst, arith, ◌⊎◌, inl, inr}
-use Rattle.std.specs.Prelude.{slice_get, ◌==◌, is_some, is_none, IfSome}
+use Rattle.std.proofs.Common.{◌≡◌, ℕ, zero, suc, ◌+◌, ◌*◌, ◌<◌, ◌≤◌, Bool, true, false, cond, not, ◌&&◌, ◌||◌, List, [], ◌∷◌, length, map, take, get_or, Option, Some, None, refl, sym, ap, ◌∙◌, subst, arith, ◌⊎◌, inl, inr}
+use Rattle.std.specs.Prelude.{slice_get, nat_eq, ◌==◌, is_some, is_none, IfSome}
 use Rattle.std.specs.List.{All, filter, list_all, list_any, sum_by}
 use Rattle.std.proofs.lemmas.Bool.{true≢false, cases_eq}
 use Rattle.std.proofs.lemmas.Grind.{common_steps}
 use Rattle.std.proofs.lemmas.List.{take_all, get_or_read}
 use Rattle.std.proofs.lemmas.Option.{get_or_from_slice_get}
+use Rattle.std.proofs.lemmas.List.Folds.{list_any-append}
 use Rattle.std.proofs.lemmas.List.Elements.{All-head, All-tail, All-cons}
 use Rattle.std.proofs.lemmas.List.Sums.{sum_by-append, sum_by-cons}
 use Rattle.bool_circuit.specs.declared.gate.Wire.{Wire}
@@ -20,14 +21,15 @@ use Rattle.set_bits.specs.declared.layout.Edge.{Edge}
 use Rattle.set_bits.specs.declared.layout.Layout.{Layout}
 use Rattle.set_bits.specs.Fitting.{slot_clafer}
 use Rattle.set_bits.specs.Reaching.{wire_at, IsTableOf}
-use Rattle.set_bits.proofs.Combining.{here_stays}
+use Rattle.set_bits.specs.Sets.{is_here}
+use Rattle.set_bits.proofs.Combining.{or_false, here_stays}
 use Rattle.shown_instance.specs.Shown.{is_taken}
 use Rattle.shown_instance.specs.Consistent.{has_taken}
 use Rattle.shown_instance.specs.Distinct.{leads_there, lead_together, tells_apart, targets_differ}
 use Rattle.shape_encoder.specs.Reading.{IsBit}
 use Rattle.shape_encoder.specs.Taking.{AreTaken}
-use Rattle.shape_encoder.specs.Comparing.{turned, turned_by, turned_from, HoldsBy, HoldsEdges, joins, meet, is_paired, nested_differ, IsJoinedSoFar, IsMadeOf, IsTiedBy}
-use Rattle.shape_encoder.proofs.Steps.{and_true, list_all-push, numbers-push, all_same}
+use Rattle.shape_encoder.specs.Comparing.{turned, turned_by, turned_from, HoldsBy, HoldsEdges, joins, meet, is_paired, nested_differ, IsJoinedSoFar, IsMadeOf, IsMadeSoFar, IsTiedBy}
+use Rattle.shape_encoder.proofs.Steps.{and_true, list_all-push, numbers-push, all_same, all_item, take_item}
 use Rattle.shape_encoder.proofs.Taken.{each_two-push}
 
 pub any_same : {X : Type 0} (f g : X → Bool) (xs : List X) → ((x : X) → f x ≡ g x) → list_any f xs ≡ list_any g xs
@@ -59,9 +61,6 @@ tied_by old new edges all slot table single same t = record {
       t.taken bits k ∙ ap (λ es. has_taken es bits k) (take_all (length edges) edges (omega arith) ∙ same) ∙ turned_any bits (λ n. n == k) all slot;
 }
 
-pub made_of : (old new : List Gate) (edges : List Edge) (table : List (Option Wire)) (single : Wire) → AreTaken old edges (length edges) new table single → IsMadeOf new edges table
-made_of old new edges table single t = record { wires = t.wires; leads = λ bits k. t.taken bits k ∙ ap (λ es. has_taken es bits k) (take_all (length edges) edges (omega arith)) }
-
 pub wire_stays : (old new : List Gate) (n : ℕ) (o : Option Wire) → Extends old new n → IfSome o (IsWireOf old) → IfSome o (IsWireOf new)
 wire_stays old new n None x i = i
 wire_stays old new n (Some w) x i = omega (arith, i, x.at_least)
@@ -74,6 +73,32 @@ made_stays old new n edges table x m = record {
   wires = table_stays old new n table x m.wires;
   leads = λ bits k. here_stays n old new (wire_at table k) bits x (m.wires.wires k) ∙ m.leads bits k;
 }
+
+-- a circuit adds nothing to itself
+pub nothing_more : (gates : List Gate) → Extends gates gates 0
+nothing_more gates = record { at_least = omega arith; at_most = omega arith; same_inputs = refl; keeps = λ w h bits. refl }
+
+pub none_made : (old : List Gate) (edges : List Edge) (table : List (Option Wire)) → table ≡ [] → Extends old old 0 → IsMadeSoFar old edges 0 old table
+none_made old edges table none x = rw none (record { extends = x; made = record { wires = record { wires = λ k. tt }; leads = λ bits k. refl } })
+
+pub made_more : (old mid new : List Gate) (edges : List Edge) (n : ℕ) (e : Edge) (table next : List (Option Wire)) → All (λ x. IsBit old x.here) edges → slice_get edges n ≡ Some e → IsMadeSoFar old edges n mid table → Extends mid new 1 → IsTableOf new next
+    → ((bits : List Bool) (k : ℕ) → is_here new (wire_at next k) bits ≡ (is_here mid (wire_at table k) bits || (nat_eq e.from k && wire_value mid e.here bits))) → IsMadeSoFar old edges (n + 1) new next
+made_more old mid new edges n e table next all get s x t v = record {
+  extends = extends_trans old mid new n 1 s.extends x;
+  made = record {
+    wires = t;
+    leads = λ bits k.
+        v bits k ∙ ap (λ b. b || (nat_eq e.from k && wire_value mid e.here bits)) (s.made.leads bits k)
+        ∙ ap (λ b. has_taken (take n edges) bits k || (nat_eq e.from k && b)) (s.extends.keeps e.here mine.wire bits ∙ mine.value bits)
+        ∙ sym (ap (λ es. has_taken es bits k) (take_item edges n e get) ∙ list_any-append (is_taken bits k) (take n edges) (e ∷ []) ∙ ap (λ b. has_taken (take n edges) bits k || b) (or_false (is_taken bits k e)));
+  };
+}
+  where
+    mine : IsBit old e.here
+    mine = all_item (λ (y : Edge). IsBit old y.here) edges n e all get
+
+pub whole_made : (old new : List Gate) (edges : List Edge) (table : List (Option Wire)) → IsMadeSoFar old edges (length edges) new table → IsMadeOf new edges table
+whole_made old new edges table s = subst (λ es. IsMadeOf new es table) (take_all (length edges) edges (omega arith)) s.made
 
 -- edges of a list that lead from where those of a table do
 pub joined_meet : (gates : List Gate) (table : List (Option Wire)) (edges list : List Edge) (bits : List Bool) → IsMadeOf gates edges table → list_any (joins gates table bits) list ≡ meet bits list edges

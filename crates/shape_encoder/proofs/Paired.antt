@@ -14,11 +14,7 @@ use Rattle.shape_encoder.specs.Reading.{IsBit}
 use Rattle.shape_encoder.specs.Comparing.{list_at, joins, meet, IsMadeOf, AreTies, are_twins, twin_cost, place_cost, twins_cost, HasNoTwinSoFar, AreAloneSoFar}
 use Rattle.shape_encoder.proofs.Steps.{and_true, list_all-push, all_item, take_item, sum-push, sum-before, bit_stays}
 use Rattle.shape_encoder.proofs.Taken.{each_two-push}
-use Rattle.shape_encoder.proofs.Compared.{made_stays, joined_meet, sum_below-push, sum_below-room}
-
--- a circuit adds nothing to itself
-pub nothing_more : (gates : List Gate) → Extends gates gates 0
-nothing_more gates = record { at_least = omega arith; at_most = omega arith; same_inputs = refl; keeps = λ w h bits. refl }
+use Rattle.shape_encoder.proofs.Compared.{wire_stays, made_stays, joined_meet, sum_below-push, sum_below-room}
 
 -- ---- what the edges of slots keep
 
@@ -49,40 +45,38 @@ and_moves false b c = refl
 
 -- ---- a slot and those before it
 
-pub record AreComparedSoFar (parents targets : List (List Edge)) (old : List Gate) (kin : List ℕ) (ups ontos : List Edge) (n : ℕ) (new : List Gate) (up onto : List (Option Wire)) (wire : Wire) : Type 0 where
-  pub alone : HasNoTwinSoFar parents targets old kin ups ontos n new wire
+pub record AreComparedSoFar (parents targets : List (List Edge)) (old : List Gate) (kin : List ℕ) (ups ontos : List Edge) (all : Wire) (n : ℕ) (new : List Gate) (up onto : List (Option Wire)) (wire : Wire) : Type 0 where
+  pub alone : HasNoTwinSoFar parents targets old kin ups ontos all n new wire
   pub parents_by : IsMadeOf new ups up
   pub targets_by : IsMadeOf new ontos onto
 
-pub none_before : (parents targets : List (List Edge)) (old mid new : List Gate) (kin : List ℕ) (ups ontos : List Edge) (up onto : List (Option Wire)) (wire : Wire)
-    → Extends old mid ((4 * length ups + 1) + (4 * length ontos + 1)) → IsMadeOf mid ups up → IsMadeOf mid ontos onto → Extends mid new 1 → IsWireOf new wire → ((bits : List Bool) → wire_value new wire bits ≡ true)
-    → AreComparedSoFar parents targets old kin ups ontos 0 new up onto wire
-none_before parents targets old mid new kin ups ontos up onto wire x p t y w v = record {
+pub none_before : (parents targets : List (List Edge)) (old new : List Gate) (kin : List ℕ) (ups ontos : List Edge) (up onto : List (Option Wire)) (all : Wire) → Extends old new (length ups + length ontos) → IsMadeOf new ups up → IsMadeOf new ontos onto → IsWireOf old all
+    → AreComparedSoFar parents targets old kin ups ontos all 0 new up onto all
+none_before parents targets old new kin ups ontos up onto all x p t w = record {
   alone = record {
-    extends = extends_within old new (((4 * length ups + 1) + (4 * length ontos + 1)) + 1) (((4 * length ups + 1) + (4 * length ontos + 1)) + (sum_by (twin_cost parents targets) (take 0 kin) + 1)) (omega arith) (extends_trans old mid new ((4 * length ups + 1) + (4 * length ontos + 1)) 1 x y);
-    is_wire = w;
-    value = v;
+    extends = extends_within old new (length ups + length ontos) (length ups + length ontos + sum_by (twin_cost parents targets) (take 0 kin)) (omega arith) x;
+    is_wire = wire_stays old new (length ups + length ontos) (Some all) x w;
+    value = λ bits. x.keeps all w bits ∙ sym (and_true (wire_value old all bits));
   };
-  parents_by = made_stays mid new 1 ups up y p;
-  targets_by = made_stays mid new 1 ontos onto y t;
+  parents_by = p;
+  targets_by = t;
 }
 
-pub twins_more : (parents targets : List (List Edge)) (old mid new : List Gate) (kin : List ℕ) (ups ontos : List Edge) (n earlier : ℕ) (up onto : List (Option Wire)) (ps ts : List Edge) (all wire : Wire) → slice_get kin n ≡ Some earlier
-    → ps ≡ list_at parents earlier → ts ≡ list_at targets earlier → AreComparedSoFar parents targets old kin ups ontos n mid up onto all → Extends mid new (2 * length ps + 2 * length ts + 5) → IsWireOf new wire
-    → ((bits : List Bool) → wire_value new wire bits ≡ (wire_value mid all bits && not (list_any (joins mid up bits) ps && list_any (joins mid onto bits) ts)))
-    → AreComparedSoFar parents targets old kin ups ontos (n + 1) new up onto wire
-twins_more parents targets old mid new kin ups ontos n earlier up onto ps ts all wire get p t s x w v = record {
+pub twins_more : (parents targets : List (List Edge)) (old mid new : List Gate) (kin : List ℕ) (ups ontos : List Edge) (all : Wire) (n earlier : ℕ) (up onto : List (Option Wire)) (ps ts : List Edge) (right wire : Wire) → slice_get kin n ≡ Some earlier
+    → ps ≡ list_at parents earlier → ts ≡ list_at targets earlier → AreComparedSoFar parents targets old kin ups ontos all n mid up onto right → Extends mid new (2 * length ps + 2 * length ts + 5) → IsWireOf new wire
+    → ((bits : List Bool) → wire_value new wire bits ≡ (wire_value mid right bits && not (list_any (joins mid up bits) ps && list_any (joins mid onto bits) ts)))
+    → AreComparedSoFar parents targets old kin ups ontos all (n + 1) new up onto wire
+twins_more parents targets old mid new kin ups ontos all n earlier up onto ps ts right wire get p t s x w v = record {
   alone = record {
-    extends = extends_within old new ((((4 * length ups + 1) + (4 * length ontos + 1)) + (sum_by (twin_cost parents targets) (take n kin) + 1)) + (2 * length ps + 2 * length ts + 5))
-    (((4 * length ups + 1) + (4 * length ontos + 1)) + (sum_by (twin_cost parents targets) (take (n + 1) kin) + 1)) (omega (arith, next, cost))
-    (extends_trans old mid new (((4 * length ups + 1) + (4 * length ontos + 1)) + (sum_by (twin_cost parents targets) (take n kin) + 1)) (2 * length ps + 2 * length ts + 5) s.alone.extends x);
+    extends = extends_within old new ((length ups + length ontos + sum_by (twin_cost parents targets) (take n kin)) + (2 * length ps + 2 * length ts + 5)) (length ups + length ontos + sum_by (twin_cost parents targets) (take (n + 1) kin)) (omega (arith, next, cost))
+    (extends_trans old mid new (length ups + length ontos + sum_by (twin_cost parents targets) (take n kin)) (2 * length ps + 2 * length ts + 5) s.alone.extends x);
     is_wire = w;
     value = λ bits.
         v bits
-        ∙ ap (λ b. wire_value mid all bits && not (b && list_any (joins mid onto bits) ts)) (joined_meet mid up ups ps bits s.parents_by ∙ ap (λ es. meet bits es ups) p)
-        ∙ ap (λ b. wire_value mid all bits && not (meet bits (list_at parents earlier) ups && b)) (joined_meet mid onto ontos ts bits s.targets_by ∙ ap (λ es. meet bits es ontos) t)
-        ∙ ap (λ b. b && apart bits earlier) (s.alone.value bits)
-        ∙ sym (ap (list_all (apart bits)) (take_item kin n earlier get) ∙ list_all-push (apart bits) (take n kin) earlier);
+        ∙ ap (λ b. wire_value mid right bits && not (b && list_any (joins mid onto bits) ts)) (joined_meet mid up ups ps bits s.parents_by ∙ ap (λ es. meet bits es ups) p)
+        ∙ ap (λ b. wire_value mid right bits && not (meet bits (list_at parents earlier) ups && b)) (joined_meet mid onto ontos ts bits s.targets_by ∙ ap (λ es. meet bits es ontos) t)
+        ∙ ap (λ b. b && apart bits earlier) (s.alone.value bits) ∙ and_moves (wire_value old all bits) (list_all (apart bits) (take n kin)) (apart bits earlier)
+        ∙ ap (λ b. wire_value old all bits && b) (sym (ap (list_all (apart bits)) (take_item kin n earlier get) ∙ list_all-push (apart bits) (take n kin) earlier));
   };
   parents_by = made_stays mid new (2 * length ps + 2 * length ts + 5) ups up x s.parents_by;
   targets_by = made_stays mid new (2 * length ps + 2 * length ts + 5) ontos onto x s.targets_by;
@@ -109,7 +103,7 @@ twin_within parents targets kin n place earlier ps ts get l p t =
 
 -- the cost of a slot by the lists of its edges
 pub place_cost_is : (parents targets : List (List Edge)) (kin : List ℕ) (n slot : ℕ) (ps ts : List Edge) → slice_get kin n ≡ Some slot → ps ≡ list_at parents slot → ts ≡ list_at targets slot
-    → (((4 * length ps + 1) + (4 * length ts + 1)) + (sum_by (twin_cost parents targets) (take n kin) + 1)) + 1 ≡ place_cost parents targets kin n
+    → length ps + length ts + sum_by (twin_cost parents targets) (take n kin) ≡ place_cost parents targets kin n
 place_cost_is parents targets kin n slot ps ts get p t =
     let i = slot_is kin n slot get in
     let a : length (list_at parents (get_or kin n 0)) ≡ length ps = ap (λ k. length (list_at parents k)) i ∙ sym (ap length p) in

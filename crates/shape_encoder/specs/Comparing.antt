@@ -116,6 +116,11 @@ pub record IsMadeOf (gates : List Gate) (edges : List Edge) (table : List (Optio
   pub wires : IsTableOf gates table
   pub leads : (bits : List Bool) (k : ℕ) → is_here gates (wire_at table k) bits ≡ has_taken edges bits k
 
+-- and of its first n edges
+pub record IsMadeSoFar (old : List Gate) (edges : List Edge) (n : ℕ) (new : List Gate) (table : List (Option Wire)) : Type 0 where
+  pub extends : Extends old new n
+  pub made : IsMadeOf new (take n edges) table
+
 -- ---- what is seen: by parent, then by target, a wire
 
 abbrev pub row_at : {A : Type 0} → List (Vec (Option Wire) A) → ℕ → List (Option Wire)
@@ -174,7 +179,7 @@ module _ (parents targets : List (List Edge)) where
 
   -- a slot that is compared with those before it
   abbrev pub place_cost : List ℕ → ℕ → ℕ
-  place_cost kin n = ((4 * length (list_at parents (slice_index_or kin n 0)) + 1) + (4 * length (list_at targets (slice_index_or kin n 0)) + 1)) + (sum_by twin_cost (take n kin) + 1) + 1
+  place_cost kin n = length (list_at parents (slice_index_or kin n 0)) + length (list_at targets (slice_index_or kin n 0)) + sum_by twin_cost (take n kin)
 
   -- slots that are compared two by two
   abbrev pub twins_cost : List ℕ → ℕ → ℕ
@@ -188,11 +193,11 @@ module _ (parents targets : List (List Edge)) where
   abbrev pub siblings_cost : List ℕ → ℕ
   siblings_cost kin = sum_by counted_cost kin
 
-  -- a wire that is true where the first n of some slots have no twin with these parents and targets
-  pub record HasNoTwinSoFar (old : List Gate) (kin : List ℕ) (ups ontos : List Edge) (n : ℕ) (new : List Gate) (wire : Wire) : Type 0 where
-    pub extends : Extends old new (((4 * length ups + 1) + (4 * length ontos + 1)) + (sum_by twin_cost (take n kin) + 1))
+  -- a wire that is true where another one is and the first n of some slots are no twins of one with these parents and targets
+  pub record HasNoTwinSoFar (old : List Gate) (kin : List ℕ) (ups ontos : List Edge) (all : Wire) (n : ℕ) (new : List Gate) (wire : Wire) : Type 0 where
+    pub extends : Extends old new (length ups + length ontos + sum_by twin_cost (take n kin))
     pub is_wire : IsWireOf new wire
-    pub value : (bits : List Bool) → wire_value new wire bits ≡ list_all (λ j. not (meet bits (list_at parents j) ups && meet bits (list_at targets j) ontos)) (take n kin)
+    pub value : (bits : List Bool) → wire_value new wire bits ≡ (wire_value old all bits && list_all (λ j. not (meet bits (list_at parents j) ups && meet bits (list_at targets j) ontos)) (take n kin))
 
   -- a wire that is true where another one is and the first n of some slots have no twins among them
   pub record AreAloneSoFar (old : List Gate) (kin : List ℕ) (all : Wire) (n : ℕ) (cost : ℕ) (new : List Gate) (wire : Wire) : Type 0 where
@@ -250,7 +255,7 @@ pair_cost layout j i = if slot_clafer layout.slots j == slot_clafer layout.slots
 abbrev pub pairs_cost : Layout → ℕ → ℕ → ℕ
 pairs_cost layout i n = sum_by (λ j. pair_cost layout j i) (numbers_below n)
 
--- for a slot that is compared with the ones before it
+-- for a slot that is compared with the ones before it, at most
 abbrev pub alone_cost : Layout → ℕ → ℕ
 alone_cost layout i = ((4 * length (turned_from layout.parents i) + 1) + (4 * length (turned_from layout.targets i) + 1)) + (pairs_cost layout i i + 1) + 1
 
@@ -268,9 +273,13 @@ targets_cost clafers layout = slots_cost clafers layout (length layout.slots) + 
 abbrev pub sibling_cost : Layout → ℕ → ℕ
 sibling_cost layout i = length (turned_from layout.parents i) * (4 * length (turned_from layout.targets i) + 3) + 3
 
+-- for a slot that is compared with the ones before it
+abbrev pub compared_cost : Layout → ℕ → ℕ
+compared_cost layout i = length (turned_from layout.parents i) + length (turned_from layout.targets i) + pairs_cost layout i i
+
 -- for the slots of a clafer, in the form that takes fewer wires: counted, or compared two by two
 abbrev pub kin_cost : List Clafer → Layout → ℕ → ℕ
-kin_cost clafers layout c = if is_paired clafers c then min (sum_by (sibling_cost layout) (kin_of layout c)) (sum_by (alone_cost layout) (kin_of layout c)) else 0
+kin_cost clafers layout c = if is_paired clafers c then min (sum_by (sibling_cost layout) (kin_of layout c)) (sum_by (compared_cost layout) (kin_of layout c)) else 0
 
 abbrev pub kins_cost : List Clafer → Layout → ℕ → ℕ
 kins_cost clafers layout n = sum_by (kin_cost clafers layout) (numbers_below n)

@@ -34,11 +34,9 @@ fn counted_cost(parents: usize, targets: usize) -> usize
 
 // A slot that is compared with the ones before it, which take so many wires beside it.
 fn paired_cost(parents: usize, targets: usize, beside: usize) -> usize
-    ensures { result ≡ told (((4 * parents + 1) + (4 * targets + 1)) + (beside + 1) + 1) }
+    ensures { result ≡ told (parents + targets + beside) }
 {
-    let up = parents.saturating_mul(4);
-    let onto = targets.saturating_mul(4);
-    up.saturating_add(onto).saturating_add(beside).saturating_add(4)
+    parents.saturating_add(targets).saturating_add(beside)
 }
 
 // A slot beside a later one.
@@ -53,7 +51,7 @@ fn beside_cost(parents: usize, targets: usize) -> usize
 // The costs with those of one slot more.
 fn with_slot(costs: Costs, parents: usize, targets: usize) -> Costs
     ensures counted { result.counted ≡ told (costs.counted + told (parents * (4 * targets + 3) + 3)) }
-    ensures paired { result.paired ≡ told (costs.paired + told (((4 * parents + 1) + (4 * targets + 1)) + (costs.beside + 1) + 1)) }
+    ensures paired { result.paired ≡ told (costs.paired + told (parents + targets + costs.beside)) }
     ensures beside { result.beside ≡ told (costs.beside + told (2 * parents + 2 * targets + 5)) }
 {
     Costs {

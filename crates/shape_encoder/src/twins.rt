@@ -8,7 +8,7 @@ ghost use Rattle.set_bits.specs.Reaching.{IsTableOf};
 ghost use Rattle.shape_encoder.specs.Reading.{IsBit};
 ghost use Rattle.shape_encoder.specs.Comparing.{joins, IsMadeOf, AreTies, are_twins, twin_cost, place_cost, twins_cost, HasNoTwinSoFar, AreAloneSoFar};
 
-use crate::joining::{join, tie};
+use crate::joining::{ends_of, join};
 use bool_circuit::{Circuit, MOST_WIRES, Wire};
 use clf_base::{List, NoMemory};
 use set_bits::Edge;
@@ -83,21 +83,21 @@ fn tie_slot(
 ) -> Result<Tied, NoMemory>
     requires parent_bits { All (λ e. IsBit circuit.old e.here) parents.now }
     requires target_bits { All (λ e. IsBit circuit.old e.here) targets.now }
-    requires room { length circuit.old + ((4 * length parents.now + 1) + (4 * length targets.now + 1)) ≤ MOST_WIRES }
+    requires room { length circuit.old + (length parents.now + length targets.now) ≤ MOST_WIRES }
     ensures parents { IfOk result (λ tied. IsMadeOf circuit.new parents.now tied.parents.items) }
     ensures targets { IfOk result (λ tied. IsMadeOf circuit.new targets.now tied.targets.items) }
-    ensures extends { Extends circuit.old circuit.new ((4 * length parents.now + 1) + (4 * length targets.now + 1)) }
+    ensures extends { Extends circuit.old circuit.new (length parents.now + length targets.now) }
 {
-    let up = tie(alloc, circuit, parents)?;
-    let onto = tie(alloc, circuit, targets)?;
+    let up = ends_of(alloc, circuit, parents)?;
+    let onto = ends_of(alloc, circuit, targets)?;
     Ok(Tied {
         parents: up,
         targets: onto,
     })
 }
 
-// Whether none of the first of some slots has one of the parents and one of the targets.
-fn has_no_twin(
+// True where `all` is and none of the first of some slots has one of the parents and one of the targets.
+fn and_no_twin(
     alloc: Global,
     circuit: &mut Circuit,
     ties: &Ties,
@@ -105,24 +105,26 @@ fn has_no_twin(
     place: usize,
     parents: &List<Edge>,
     targets: &List<Edge>,
+    all: Wire,
 ) -> Result<Wire, NoMemory>
     requires ties { AreTies circuit.old kin.now ties.now.parents.items ties.now.targets.items }
     requires place_in { place ≤ length kin.now }
     requires parent_bits { All (λ e. IsBit circuit.old e.here) parents.now }
     requires target_bits { All (λ e. IsBit circuit.old e.here) targets.now }
-    requires room { length circuit.old + (((4 * length parents.now + 1) + (4 * length targets.now + 1)) + (sum_by (twin_cost ties.now.parents.items ties.now.targets.items) (take place kin.now) + 1)) ≤ MOST_WIRES }
-    ensures alone { IfOk result (HasNoTwinSoFar ties.now.parents.items ties.now.targets.items circuit.old kin.now parents.now targets.now place circuit.new) }
-    ensures extends { Extends circuit.old circuit.new (((4 * length parents.now + 1) + (4 * length targets.now + 1)) + (sum_by (twin_cost ties.now.parents.items ties.now.targets.items) (take place kin.now) + 1)) }
+    requires all_in { IsWireOf circuit.old all }
+    requires room { length circuit.old + (length parents.now + length targets.now + sum_by (twin_cost ties.now.parents.items ties.now.targets.items) (take place kin.now)) ≤ MOST_WIRES }
+    ensures alone { IfOk result (HasNoTwinSoFar ties.now.parents.items ties.now.targets.items circuit.old kin.now parents.now targets.now all place circuit.new) }
+    ensures extends { Extends circuit.old circuit.new (length parents.now + length targets.now + sum_by (twin_cost ties.now.parents.items ties.now.targets.items) (take place kin.now)) }
 {
     let later = tie_slot(alloc, circuit, parents, targets)?;
-    let mut all = circuit.constant(true)?;
+    let mut right = all;
     for at in 0..place {
         let earlier = *kin.get(at);
         let ups = &ties.parents[earlier];
         let ontos = &ties.targets[earlier];
-        all = and_apart(circuit, &later, ups, ontos, all)?;
+        right = and_apart(circuit, &later, ups, ontos, right)?;
     }
-    Ok(all)
+    Ok(right)
 }
 
 // True where `all` is and no earlier one of some slots has the parent and the target of the one at a place.
@@ -145,8 +147,9 @@ fn and_alone(
     let slot = *kin.get(place);
     let parents = &ties.parents[slot];
     let targets = &ties.targets[slot];
-    let alone = has_no_twin(alloc, circuit, ties, kin, place, parents, targets)?;
-    let right = circuit.and(all, alone)?;
+    let right = and_no_twin(
+        alloc, circuit, ties, kin, place, parents, targets, all,
+    )?;
     Ok(right)
 }
 

@@ -15,6 +15,6 @@ loop-place-preserved c =
     (list_here c.args.ties.now.targets.items c.get-slot.result.now c.index-targets.result.now (kin_place (length c.args.ties.now.targets.items) c.args.kin.now c.loop-place.place c.get-slot.result.now c.requires.targets c.get-slot.ensures) c.index-targets.ensures)
     c.loop-place.invariant
     (c.with_slot-costs.ensures.counted ∙ ap (λ n. told (c.loop-place.costs.counted + told (n * (4 * c.len-in-loop-place.result + 3) + 3))) c.len.ensures ∙ ap (λ n. told (c.loop-place.costs.counted + told (length c.index-parents.result.now * (4 * n + 3) + 3))) c.len-in-loop-place.ensures)
-    (c.with_slot-costs.ensures.paired ∙ ap (λ n. told (c.loop-place.costs.paired + told (((4 * n + 1) + (4 * c.len-in-loop-place.result + 1)) + (c.loop-place.costs.beside + 1) + 1))) c.len.ensures
-    ∙ ap (λ n. told (c.loop-place.costs.paired + told (((4 * length c.index-parents.result.now + 1) + (4 * n + 1)) + (c.loop-place.costs.beside + 1) + 1))) c.len-in-loop-place.ensures)
+    (c.with_slot-costs.ensures.paired ∙ ap (λ n. told (c.loop-place.costs.paired + told (n + c.len-in-loop-place.result + c.loop-place.costs.beside))) c.len.ensures
+    ∙ ap (λ n. told (c.loop-place.costs.paired + told (length c.index-parents.result.now + n + c.loop-place.costs.beside))) c.len-in-loop-place.ensures)
     (c.with_slot-costs.ensures.beside ∙ ap (λ n. told (c.loop-place.costs.beside + told (2 * n + 2 * c.len-in-loop-place.result + 5))) c.len.ensures ∙ ap (λ n. told (c.loop-place.costs.beside + told (2 * length c.index-parents.result.now + 2 * n + 5))) c.len-in-loop-place.ensures)

@@ -1,7 +1,7 @@
 use Rattle.std.proofs.Common.{◌≡◌, ◌+◌, ◌*◌, ◌<◌, ◌≤◌, length, take, arith}
 use Rattle.shape_encoder.specs.Comparing.{siblings_cost}
-use Rattle.shape_encoder.proofs.Compared.{costs_within}
-use Rattle.shape_encoder.proofs.Paired.{nothing_more, ties_stay, list_here, here_bits, kin_place}
+use Rattle.shape_encoder.proofs.Compared.{nothing_more, costs_within}
+use Rattle.shape_encoder.proofs.Paired.{ties_stay, list_here, here_bits, kin_place}
 use Rattle.shape_encoder.proofs.Seen.{none_counted, counted_more, counted_within}
 use Rattle.shape_encoder.proofs.siblings.and_no_siblings.Goals as goal
 

@@ -1,4 +1,4 @@
-use Rattle.shape_encoder.proofs.Paired.{nothing_more}
+use Rattle.shape_encoder.proofs.Compared.{nothing_more}
 use Rattle.shape_encoder.proofs.Seen.{no_marks, marks_more}
 use Rattle.shape_encoder.proofs.siblings.mark.Goals as goal
 

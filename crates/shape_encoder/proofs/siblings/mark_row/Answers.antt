@@ -1,4 +1,4 @@
-use Rattle.shape_encoder.proofs.Paired.{nothing_more}
+use Rattle.shape_encoder.proofs.Compared.{nothing_more}
 use Rattle.shape_encoder.proofs.Seen.{none_marked, marked_more}
 use Rattle.shape_encoder.proofs.siblings.mark_row.Goals as goal
 

@@ -1,7 +1,7 @@
 use Rattle.std.proofs.Common.{◌+◌, ◌<◌, ◌≤◌, length, arith}
 use Rattle.shape_encoder.specs.Comparing.{place_cost, twins_cost}
-use Rattle.shape_encoder.proofs.Compared.{costs_within}
-use Rattle.shape_encoder.proofs.Paired.{nothing_more, none_alone, alone_more, twins_cost-push, twins_cost-room}
+use Rattle.shape_encoder.proofs.Compared.{nothing_more, costs_within}
+use Rattle.shape_encoder.proofs.Paired.{none_alone, alone_more, twins_cost-push, twins_cost-room}
 use Rattle.shape_encoder.proofs.twins.and_no_twins.Goals as goal
 
 pub and_alone-requires-clause-room : goal.and_alone-requires-clause-room
