@@ -1,11 +1,12 @@
 -- Slots that are compared with each other, one after another.
-use Rattle.std.proofs.Common.{◌≡◌, ℕ, zero, suc, ◌+◌, ◌*◌, ◌<◌, ◌≤◌, Bool, true, false, cond, not, ◌&&◌, ◌||◌, List, [], ◌∷◌, length, map, get_or, Option, Some, None, refl, sym, ap, ◌∙◌, subst, arith, ◌⊎◌, inl, inr}
-use Rattle.std.specs.Prelude.{slice_get, ◌==◌, is_some, is_none, IfSome}
+use Rattle.std.proofs.Common.{◌≡◌, ℕ, zero, suc, ◌+◌, ◌*◌, ◌<◌, ◌≤◌, Bool, true, false, cond, not, ◌&&◌, ◌||◌, List, [], ◌∷◌, length, map, take, get_or, Option, Some, None, refl, sym, ap, ◌∙◌, subst, arith, ◌⊎◌, inl, inr}
+use Rattle.std.specs.Prelude.{slice_get, nat_eq, ◌==◌, is_some, is_none, IfSome}
 use Rattle.std.specs.List.{All, filter, list_all, list_any, sum_by}
 use Rattle.std.proofs.lemmas.Bool.{true≢false, cases_eq}
 use Rattle.std.proofs.lemmas.Grind.{common_steps}
 use Rattle.std.proofs.lemmas.List.{take_all, get_or_read}
 use Rattle.std.proofs.lemmas.Option.{get_or_from_slice_get}
+use Rattle.std.proofs.lemmas.List.Folds.{list_any-append}
 use Rattle.std.proofs.lemmas.List.Elements.{All-head, All-tail, All-cons}
 use Rattle.std.proofs.lemmas.List.Sums.{sum_by-append, sum_by-cons}
 use Rattle.bool_circuit.specs.declared.gate.Wire.{Wire}
@@ -19,23 +20,24 @@ use Rattle.clf_tree.specs.Hierarchy.{parent_of}
 use Rattle.set_bits.specs.declared.layout.Edge.{Edge}
 use Rattle.set_bits.specs.declared.layout.Layout.{Layout}
 use Rattle.set_bits.specs.Fitting.{slot_clafer}
-use Rattle.set_bits.specs.Reaching.{wire_at}
-use Rattle.set_bits.proofs.Combining.{here_stays}
+use Rattle.set_bits.specs.Reaching.{wire_at, IsTableOf}
+use Rattle.set_bits.specs.Sets.{is_here}
+use Rattle.set_bits.proofs.Combining.{or_false, here_stays}
 use Rattle.shown_instance.specs.Shown.{is_taken}
 use Rattle.shown_instance.specs.Consistent.{has_taken}
 use Rattle.shown_instance.specs.Distinct.{leads_there, lead_together, tells_apart, targets_differ}
 use Rattle.shape_encoder.specs.Reading.{IsBit}
 use Rattle.shape_encoder.specs.Taking.{AreTaken}
-use Rattle.shape_encoder.specs.Comparing.{turned, turned_by, turned_from, HoldsBy, HoldsEdges, joins, is_paired, nested_differ, are_twins, IsJoinedSoFar, IsTiedBy, HasNoTwinSoFar, DifferSoFar, pair_cost, pairs_cost, slot_cost, slots_cost}
-use Rattle.shape_encoder.proofs.Steps.{and_true, list_all-push, numbers-push, all_same}
+use Rattle.shape_encoder.specs.Comparing.{turned, turned_by, turned_from, HoldsBy, HoldsEdges, joins, meet, is_paired, nested_differ, IsJoinedSoFar, IsMadeOf, IsMadeSoFar, IsTiedBy}
+use Rattle.shape_encoder.proofs.Steps.{and_true, list_all-push, numbers-push, all_same, all_item, take_item}
 use Rattle.shape_encoder.proofs.Taken.{each_two-push}
 
-any_same : {X : Type 0} (f g : X → Bool) (xs : List X) → ((x : X) → f x ≡ g x) → list_any f xs ≡ list_any g xs
+pub any_same : {X : Type 0} (f g : X → Bool) (xs : List X) → ((x : X) → f x ≡ g x) → list_any f xs ≡ list_any g xs
 any_same f g [] h = refl
 any_same f g (x ∷ xs) h = ap (λ b. b || list_any f xs) (h x) ∙ ap (λ b. g x || b) (any_same f g xs h)
 
 -- the edges of a slot, turned round, tell what its own edges do
-turned_any : (bits : List Bool) (leads : ℕ → Bool) (edges : List Edge) (i : ℕ) → list_any (λ (e : Edge). leads e.from && entry bits e.here) (turned_from edges i) ≡ list_any (λ (e : Edge). is_taken bits i e && leads e.to) edges
+pub turned_any : (bits : List Bool) (leads : ℕ → Bool) (edges : List Edge) (i : ℕ) → list_any (λ (e : Edge). leads e.from && entry bits e.here) (turned_from edges i) ≡ list_any (λ (e : Edge). is_taken bits i e && leads e.to) edges
 turned_any bits leads [] i = refl
 turned_any bits leads (e ∷ es) i = by (e.from == i) (turned_any bits leads es i)
   where
@@ -59,6 +61,50 @@ tied_by old new edges all slot table single same t = record {
       t.taken bits k ∙ ap (λ es. has_taken es bits k) (take_all (length edges) edges (omega arith) ∙ same) ∙ turned_any bits (λ n. n == k) all slot;
 }
 
+pub wire_stays : (old new : List Gate) (n : ℕ) (o : Option Wire) → Extends old new n → IfSome o (IsWireOf old) → IfSome o (IsWireOf new)
+wire_stays old new n None x i = i
+wire_stays old new n (Some w) x i = omega (arith, i, x.at_least)
+
+pub table_stays : (old new : List Gate) (n : ℕ) (table : List (Option Wire)) → Extends old new n → IsTableOf old table → IsTableOf new table
+table_stays old new n table x t = record { wires = λ k. wire_stays old new n (wire_at table k) x (t.wires k) }
+
+pub made_stays : (old new : List Gate) (n : ℕ) (edges : List Edge) (table : List (Option Wire)) → Extends old new n → IsMadeOf old edges table → IsMadeOf new edges table
+made_stays old new n edges table x m = record {
+  wires = table_stays old new n table x m.wires;
+  leads = λ bits k. here_stays n old new (wire_at table k) bits x (m.wires.wires k) ∙ m.leads bits k;
+}
+
+-- a circuit adds nothing to itself
+pub nothing_more : (gates : List Gate) → Extends gates gates 0
+nothing_more gates = record { at_least = omega arith; at_most = omega arith; same_inputs = refl; keeps = λ w h bits. refl }
+
+pub none_made : (old : List Gate) (edges : List Edge) (table : List (Option Wire)) → table ≡ [] → Extends old old 0 → IsMadeSoFar old edges 0 old table
+none_made old edges table none x = rw none (record { extends = x; made = record { wires = record { wires = λ k. tt }; leads = λ bits k. refl } })
+
+pub made_more : (old mid new : List Gate) (edges : List Edge) (n : ℕ) (e : Edge) (table next : List (Option Wire)) → All (λ x. IsBit old x.here) edges → slice_get edges n ≡ Some e → IsMadeSoFar old edges n mid table → Extends mid new 1 → IsTableOf new next
+    → ((bits : List Bool) (k : ℕ) → is_here new (wire_at next k) bits ≡ (is_here mid (wire_at table k) bits || (nat_eq e.from k && wire_value mid e.here bits))) → IsMadeSoFar old edges (n + 1) new next
+made_more old mid new edges n e table next all get s x t v = record {
+  extends = extends_trans old mid new n 1 s.extends x;
+  made = record {
+    wires = t;
+    leads = λ bits k.
+        v bits k ∙ ap (λ b. b || (nat_eq e.from k && wire_value mid e.here bits)) (s.made.leads bits k)
+        ∙ ap (λ b. has_taken (take n edges) bits k || (nat_eq e.from k && b)) (s.extends.keeps e.here mine.wire bits ∙ mine.value bits)
+        ∙ sym (ap (λ es. has_taken es bits k) (take_item edges n e get) ∙ list_any-append (is_taken bits k) (take n edges) (e ∷ []) ∙ ap (λ b. has_taken (take n edges) bits k || b) (or_false (is_taken bits k e)));
+  };
+}
+  where
+    mine : IsBit old e.here
+    mine = all_item (λ (y : Edge). IsBit old y.here) edges n e all get
+
+pub whole_made : (old new : List Gate) (edges : List Edge) (table : List (Option Wire)) → IsMadeSoFar old edges (length edges) new table → IsMadeOf new edges table
+whole_made old new edges table s = subst (λ es. IsMadeOf new es table) (take_all (length edges) edges (omega arith)) s.made
+
+-- edges of a list that lead from where those of a table do
+pub joined_meet : (gates : List Gate) (table : List (Option Wire)) (edges list : List Edge) (bits : List Bool) → IsMadeOf gates edges table → list_any (joins gates table bits) list ≡ meet bits list edges
+joined_meet gates table edges list bits m =
+    any_same (joins gates table bits) (λ (e : Edge). has_taken edges bits e.from && entry bits e.here) list (λ e. ap (λ b. b && entry bits e.here) (m.leads bits e.from))
+
 pub tied_stays : (old new : List Gate) (n : ℕ) (edges : List Edge) (slot : ℕ) (table : List (Option Wire)) → Extends old new n → IsTiedBy old edges slot table → IsTiedBy new edges slot table
 tied_stays old new n edges slot table x t = record {
   wires = record { wires = λ k. stays (wire_at table k) (t.wires.wires k) };
@@ -81,18 +127,21 @@ joined_together gates edges j slot table list bits same t =
 pub all_joined : (old new : List Gate) (table : List (Option Wire)) (edges : List Edge) (wire : Wire) → IsJoinedSoFar old table edges (length edges) new wire → (bits : List Bool) → wire_value new wire bits ≡ list_any (joins old table bits) edges
 all_joined old new table edges wire j bits = j.value bits ∙ ap (list_any (joins old table bits)) (take_all (length edges) edges (omega arith))
 
-others_differ : (clafers : List Clafer) (layout : Layout) (bits : List Bool) (j i : ℕ) → (slot_clafer layout.slots j == slot_clafer layout.slots i) ≡ false → targets_differ clafers layout bits j i ≡ true
+pub others_differ : (clafers : List Clafer) (layout : Layout) (bits : List Bool) (j i : ℕ) → (slot_clafer layout.slots j == slot_clafer layout.slots i) ≡ false → targets_differ clafers layout bits j i ≡ true
 others_differ clafers layout bits j i e = ap (λ b. not (((b && tells_apart clafers (slot_clafer layout.slots j)) && (is_none (parent_of clafers (slot_clafer layout.slots j)) || lead_together layout.parents bits j i)) && lead_together layout.targets bits j i)) e
 
-same_number : (a b : ℕ) → (a == b) ≡ true → a ≡ b
+pub same_is : (a b : ℕ) → a ≡ b → (a == b) ≡ true
+same_is a b e = grind (arith, common_steps)
+
+pub same_number : (a b : ℕ) → (a == b) ≡ true → a ≡ b
 same_number a b t = grind (arith, common_steps)
 
-or_true : (b : Bool) → (b || true) ≡ true
+pub or_true : (b : Bool) → (b || true) ≡ true
 or_true true = refl
 or_true false = refl
 
 -- slots of a clafer that is not to be compared by pairs, and of one that is
-unpaired_differ : (clafers : List Clafer) (layout : Layout) (bits : List Bool) (i : ℕ) → is_paired clafers (slot_clafer layout.slots i) ≡ false → (j : ℕ) → nested_differ clafers layout bits j i ≡ true
+pub unpaired_differ : (clafers : List Clafer) (layout : Layout) (bits : List Bool) (i : ℕ) → is_paired clafers (slot_clafer layout.slots i) ≡ false → (j : ℕ) → nested_differ clafers layout bits j i ≡ true
 unpaired_differ clafers layout bits i e j = at (slot_clafer layout.slots j == slot_clafer layout.slots i) refl
   where
     told : Bool
@@ -115,8 +164,11 @@ unpaired_differ clafers layout bits i e j = at (slot_clafer layout.slots j == sl
         ap (λ b. not some || not (((b && told) && rest) && lead_together layout.targets bits j i)) t
         ∙ either told some (ap (is_paired clafers) (same_number (slot_clafer layout.slots j) (slot_clafer layout.slots i) t) ∙ e)
 
-paired_differ : (clafers : List Clafer) (layout : Layout) (bits : List Bool) (i : ℕ) → is_paired clafers (slot_clafer layout.slots i) ≡ true → (j : ℕ) → not (are_twins layout bits j i) ≡ nested_differ clafers layout bits j i
-paired_differ clafers layout bits i e j = at (slot_clafer layout.slots j == slot_clafer layout.slots i) refl
+pub paired_differ : (clafers : List Clafer) (layout : Layout) (bits : List Bool) (c j i : ℕ) → is_paired clafers c ≡ true → slot_clafer layout.slots j ≡ c → slot_clafer layout.slots i ≡ c
+    → not (lead_together layout.parents bits j i && lead_together layout.targets bits j i) ≡ nested_differ clafers layout bits j i
+paired_differ clafers layout bits c j i e f g =
+    nested told (parent_of clafers (slot_clafer layout.slots j)) (ap (is_paired clafers) f ∙ e)
+    ∙ sym (ap (λ b. not (is_some (parent_of clafers (slot_clafer layout.slots j))) || not (((b && told) && (is_none (parent_of clafers (slot_clafer layout.slots j)) || beside)) && onto)) (same_is (slot_clafer layout.slots j) (slot_clafer layout.slots i) (f ∙ sym g)))
   where
     told : Bool
     told = tells_apart clafers (slot_clafer layout.slots j)
@@ -127,19 +179,10 @@ paired_differ clafers layout bits i e j = at (slot_clafer layout.slots j == slot
     onto : Bool
     onto = lead_together layout.targets bits j i
 
-    nested : (t : Bool) (o : Option ℕ) → (t && is_some o) ≡ true → not (true && (beside && onto)) ≡ (not (is_some o) || not (((true && t) && (is_none o || beside)) && onto))
+    nested : (t : Bool) (o : Option ℕ) → (t && is_some o) ≡ true → not (beside && onto) ≡ (not (is_some o) || not (((true && t) && (is_none o || beside)) && onto))
     nested true (Some p) h = refl
     nested true None h = absurd (true≢false (sym h))
     nested false o h = absurd (true≢false (sym h))
-
-    at : (b : Bool) → (slot_clafer layout.slots j == slot_clafer layout.slots i) ≡ b → not (are_twins layout bits j i) ≡ nested_differ clafers layout bits j i
-    at false t =
-        ap (λ b. not (b && (beside && onto))) t
-        ∙ sym (ap (λ b. not (is_some (parent_of clafers (slot_clafer layout.slots j))) || b) (others_differ clafers layout bits j i t) ∙ or_true (not (is_some (parent_of clafers (slot_clafer layout.slots j)))))
-    at true t =
-        ap (λ b. not (b && (beside && onto))) t
-        ∙ nested told (parent_of clafers (slot_clafer layout.slots j)) (ap (is_paired clafers) (same_number (slot_clafer layout.slots j) (slot_clafer layout.slots i) t) ∙ e)
-        ∙ sym (ap (λ b. not (is_some (parent_of clafers (slot_clafer layout.slots j))) || not (((b && told) && (is_none (parent_of clafers (slot_clafer layout.slots j)) || beside)) && onto)) t)
 
 -- ---- costs
 
@@ -168,32 +211,6 @@ sum_below-room f n (suc k) h = by (cases_eq n k) (sum_below-room f n k)
 
 pub cost_step : (old mid new : List Gate) (m n total : ℕ) → m + n ≤ total → Extends old mid (m + 1) → Extends mid new n → Extends old new (total + 1)
 cost_step old mid new m n total h x y = extends_within old new ((m + 1) + n) (total + 1) (omega (arith, h)) (extends_trans old mid new (m + 1) n x y)
-
-pub none_before : (old new : List Gate) (layout : Layout) (slot : ℕ) (wire : Wire) → Extends old new 1 → IsWireOf new wire → ((bits : List Bool) → wire_value new wire bits ≡ true) → HasNoTwinSoFar old layout slot 0 (pairs_cost layout slot 0 + 1) new wire
-none_before old new layout slot wire x w v = record { extends = x; is_wire = w; value = v }
-
-pub twins_more : (old mid new : List Gate) (layout : Layout) (slot n : ℕ) (all wire : Wire) → HasNoTwinSoFar old layout slot n (pairs_cost layout slot n + 1) mid all → Extends mid new (pair_cost layout n slot) → IsWireOf new wire
-    → ((bits : List Bool) → wire_value new wire bits ≡ (wire_value mid all bits && not (are_twins layout bits n slot))) → HasNoTwinSoFar old layout slot (n + 1) (pairs_cost layout slot (n + 1) + 1) new wire
-twins_more old mid new layout slot n all wire s x w v = record {
-  extends = cost_step old mid new (pairs_cost layout slot n) (pair_cost layout n slot) (pairs_cost layout slot (n + 1)) (let e = sum_below-push (λ j. pair_cost layout j slot) n in omega (arith, e)) s.extends x;
-  is_wire = w;
-  value = λ bits.
-      v bits ∙ ap (λ b. b && not (are_twins layout bits n slot)) (s.value bits)
-      ∙ sym (ap (list_all (λ j. not (are_twins layout bits j slot))) (numbers-push n) ∙ list_all-push (λ j. not (are_twins layout bits j slot)) (numbers_below n) n);
-}
-
-pub none_differ : (old new : List Gate) (clafers : List Clafer) (layout : Layout) (wire : Wire) → Extends old new 1 → IsWireOf new wire → ((bits : List Bool) → wire_value new wire bits ≡ true) → DifferSoFar old clafers layout 0 (slots_cost clafers layout 0 + 1) new wire
-none_differ old new clafers layout wire x w v = record { extends = x; is_wire = w; value = v }
-
-pub differ_more : (old mid new : List Gate) (clafers : List Clafer) (layout : Layout) (n : ℕ) (all wire : Wire) → DifferSoFar old clafers layout n (slots_cost clafers layout n + 1) mid all → Extends mid new (slot_cost clafers layout n) → IsWireOf new wire
-    → ((bits : List Bool) → wire_value new wire bits ≡ (wire_value mid all bits && list_all (λ j. nested_differ clafers layout bits j n) (numbers_below n))) → DifferSoFar old clafers layout (n + 1) (slots_cost clafers layout (n + 1) + 1) new wire
-differ_more old mid new clafers layout n all wire s x w v = record {
-  extends = cost_step old mid new (slots_cost clafers layout n) (slot_cost clafers layout n) (slots_cost clafers layout (n + 1)) (let e = sum_below-push (slot_cost clafers layout) n in omega (arith, e)) s.extends x;
-  is_wire = w;
-  value = λ bits.
-      v bits ∙ ap (λ b. b && list_all (λ j. nested_differ clafers layout bits j n) (numbers_below n)) (s.value bits)
-      ∙ sym (ap (each_two (nested_differ clafers layout bits)) (numbers-push n) ∙ each_two-push (nested_differ clafers layout bits) (numbers_below n) n);
-}
 
 -- ---- one slot, and two
 
@@ -224,47 +241,13 @@ clafer_at layout i n e = ap (λ (m : Node). m.clafer) (get_or_from_slice_get lay
 pub clafers_same : (layout : Layout) (j i : ℕ) (m n : Node) → slice_get layout.slots j ≡ Some m → slice_get layout.slots i ≡ Some n → m.clafer ≡ n.clafer → slot_clafer layout.slots j ≡ slot_clafer layout.slots i
 clafers_same layout j i m n e f same = clafer_at layout j m e ∙ same ∙ sym (clafer_at layout i n f)
 
-same_is : (a b : ℕ) → a ≡ b → (a == b) ≡ true
-same_is a b e = grind (arith, common_steps)
-
-pub pair_cost_is : (layout : Layout) (j i : ℕ) (ps ts : List Edge) → slot_clafer layout.slots j ≡ slot_clafer layout.slots i → ps ≡ turned_from layout.parents j → ts ≡ turned_from layout.targets j → 2 * length ps + 2 * length ts + 5 ≡ pair_cost layout j i
-pair_cost_is layout j i ps ts same p t =
-    ap (λ xs. 2 * length xs + 2 * length ts + 5) p ∙ ap (λ xs. 2 * length (turned_from layout.parents j) + 2 * length xs + 5) t
-    ∙ sym (ap (λ b. cond b (2 * length (turned_from layout.parents j) + 2 * length (turned_from layout.targets j) + 5) 0) (same_is (slot_clafer layout.slots j) (slot_clafer layout.slots i) same))
-
-pub twin_value : (gates : List Gate) (layout : Layout) (j i : ℕ) (parents targets : List (Option Wire)) (ps ts : List Edge) → slot_clafer layout.slots j ≡ slot_clafer layout.slots i
-    → ps ≡ turned_from layout.parents j → ts ≡ turned_from layout.targets j → IsTiedBy gates layout.parents i parents → IsTiedBy gates layout.targets i targets
-    → (bits : List Bool) → not (list_any (joins gates parents bits) ps && list_any (joins gates targets bits) ts) ≡ not (are_twins layout bits j i)
-twin_value gates layout j i parents targets ps ts same p t up onto bits =
-    ap (λ b. not (b && list_any (joins gates targets bits) ts)) (joined_together gates layout.parents j i parents ps bits p up)
-    ∙ ap (λ b. not (lead_together layout.parents bits j i && b)) (joined_together gates layout.targets j i targets ts bits t onto)
-    ∙ sym (ap (λ b. not (b && (lead_together layout.parents bits j i && lead_together layout.targets bits j i))) (same_is (slot_clafer layout.slots j) (slot_clafer layout.slots i) same))
-
-pub unpaired_value : (clafers : List Clafer) (layout : Layout) (i : ℕ) (n : Node) (all paired : Bool) → slice_get layout.slots i ≡ Some n → paired ≡ is_paired clafers n.clafer → paired ≡ false → (bits : List Bool) → all ≡ (all && list_all (λ j. nested_differ clafers layout bits j i) (numbers_below i))
-unpaired_value clafers layout i n all paired get t f bits = sym (ap (λ b. all && b) (all_of (numbers_below i)) ∙ and_true all)
-  where
-    not_paired : is_paired clafers (slot_clafer layout.slots i) ≡ false
-    not_paired = ap (is_paired clafers) (clafer_at layout i n get) ∙ sym t ∙ f
-
-    all_of : (xs : List ℕ) → list_all (λ j. nested_differ clafers layout bits j i) xs ≡ true
-    all_of [] = refl
-    all_of (x ∷ xs) = ap (λ b. b && list_all (λ j. nested_differ clafers layout bits j i) xs) (unpaired_differ clafers layout bits i not_paired x) ∙ all_of xs
-
-pub paired_slot : (clafers : List Clafer) (layout : Layout) (i : ℕ) (n : Node) (paired : Bool) → slice_get layout.slots i ≡ Some n → paired ≡ is_paired clafers n.clafer → paired ≡ true → is_paired clafers (slot_clafer layout.slots i) ≡ true
-paired_slot clafers layout i n paired get t f = ap (is_paired clafers) (clafer_at layout i n get) ∙ sym t ∙ f
-
-pub paired_value : (clafers : List Clafer) (layout : Layout) (i : ℕ) → is_paired clafers (slot_clafer layout.slots i) ≡ true → (bits : List Bool) (xs : List ℕ) → list_all (λ j. not (are_twins layout bits j i)) xs ≡ list_all (λ j. nested_differ clafers layout bits j i) xs
-paired_value clafers layout i e bits xs = all_same (λ j. not (are_twins layout bits j i)) (λ j. nested_differ clafers layout bits j i) xs (paired_differ clafers layout bits i e)
-
 pub told_slot : (clafers : List Clafer) (layout : Layout) (i : ℕ) (n : Node) (told : Bool) → slice_get layout.slots i ≡ Some n → told ≡ tells_apart clafers n.clafer → told ≡ true → tells_apart clafers (slot_clafer layout.slots i) ≡ true
 told_slot clafers layout i n told get t f = ap (tells_apart clafers) (clafer_at layout i n get) ∙ sym t ∙ f
-
-pub slot_cost_is : (clafers : List Clafer) (layout : Layout) (i : ℕ) (ps ts : List Edge) → is_paired clafers (slot_clafer layout.slots i) ≡ true → ps ≡ turned_from layout.parents i → ts ≡ turned_from layout.targets i
-    → ((4 * length ps + 1) + (4 * length ts + 1)) + (pairs_cost layout i i + 1) + 1 ≡ slot_cost clafers layout i
-slot_cost_is clafers layout i ps ts told p t =
-    ap (λ xs. ((4 * length xs + 1) + (4 * length ts + 1)) + (pairs_cost layout i i + 1) + 1) p ∙ ap (λ xs. ((4 * length (turned_from layout.parents i) + 1) + (4 * length xs + 1)) + (pairs_cost layout i i + 1) + 1) t
-    ∙ sym (ap (λ b. cond b (((4 * length (turned_from layout.parents i) + 1) + (4 * length (turned_from layout.targets i) + 1)) + (pairs_cost layout i i + 1) + 1) 0) told)
 
 -- a cost under another name
 pub costs_same : (old new : List Gate) (m n : ℕ) → m ≡ n → Extends old new m → Extends old new n
 costs_same old new m n e x = subst (Extends old new) e x
+
+-- one step more, within the cost of all
+pub costs_within : (old mid new : List Gate) (m n total : ℕ) → m + n ≤ total → Extends old mid m → Extends mid new n → Extends old new total
+costs_within old mid new m n total h x y = extends_within old new (m + n) total h (extends_trans old mid new m n x y)

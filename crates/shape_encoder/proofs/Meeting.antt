@@ -23,8 +23,8 @@ use Rattle.shown_instance.proofs.Placing.{same_truth, implied, same_number}
 use Rattle.shown_instance.proofs.Whole.{numbers_at, numbers_from}
 use Rattle.shown_instance.proofs.Once.{is_earlier, earlier_irrefl, each_two-map, two_at}
 use Rattle.shown_instance.proofs.Differing.{each_from, each_at, two_from, any_there, not_so, so_not, implies}
-use Rattle.shape_encoder.specs.Comparing.{turned, turned_by, clafer_from, is_counted, is_single_at, is_paired, nested_differ, leads_before, IsOrdered, DifferSoFar, AreSingleSoFar, single_cost, singles_cost}
-use Rattle.shape_encoder.proofs.Steps.{and_true, list_all-push, numbers-push}
+use Rattle.shape_encoder.specs.Comparing.{turned, turned_by, clafer_from, is_counted, is_single_at, is_paired, nested_differ, leads_before, IsOrdered, NestedDiffer, AreSingleSoFar, single_cost, singles_cost}
+use Rattle.shape_encoder.proofs.Steps.{and_true, kept_two, list_all-push, numbers-push}
 use Rattle.shape_encoder.proofs.Compared.{cost_step, sum_below-push}
 
 -- two edges to one slot that are taken
@@ -35,34 +35,11 @@ meet bits e f = ((e.to == f.to) && entry bits e.here) && entry bits f.here
 abbrev apart : Layout → List Bool → ℕ → Edge → Edge → Bool
 apart layout bits c e f = not ((slot_clafer layout.slots e.from == c) && (slot_clafer layout.slots f.from == c)) || not (meet bits e f)
 
-all_kept : (p q : Edge → Bool) (es : List Edge) → list_all q (filter p es) ≡ list_all (λ f. not (p f) || q f) es
-all_kept p q [] = refl
-all_kept p q (e ∷ es) = by (p e) (all_kept p q es)
-  where
-    by : (b : Bool) → list_all q (filter p es) ≡ list_all (λ f. not (p f) || q f) es → list_all q (cond b (e ∷ filter p es) (filter p es)) ≡ ((not b || q e) && list_all (λ f. not (p f) || q f) es)
-    by true rest = ap (λ b. q e && b) rest
-    by false rest = rest
-
-all_free : (es : List Edge) → list_all (λ (e : Edge). true) es ≡ true
-all_free [] = refl
-all_free (e ∷ es) = all_free es
-
-two_kept : (p : Edge → Bool) (t : Edge → Edge → Bool) (es : List Edge) → each_two t (filter p es) ≡ each_two (λ e f. not (p e && p f) || t e f) es
-two_kept p t [] = refl
-two_kept p t (e ∷ es) = by (p e) (two_kept p t es)
-  where
-    rest : Bool
-    rest = each_two (λ x y. not (p x && p y) || t x y) es
-
-    by : (b : Bool) → each_two t (filter p es) ≡ rest → each_two t (cond b (e ∷ filter p es) (filter p es)) ≡ (list_all (λ f. not (b && p f) || t e f) es && rest)
-    by true more = ap (λ b. b && each_two t (filter p es)) (all_kept p (t e) es) ∙ ap (λ b. list_all (λ f. not (p f) || t e f) es && b) more
-    by false more = more ∙ ap (λ b. b && rest) (sym (all_free es))
-
 -- what the edges of a clafer tell, turned round
 single_is : (layout : Layout) (bits : List Bool) (c : ℕ) → are_single (turned_by (clafer_from layout) layout.targets c) bits ≡ each_two (apart layout bits c) layout.targets
 single_is layout bits c =
     each_two-map (λ (e f : Edge). not (is_taken bits f.from e && entry bits f.here)) turned (filter (λ (e : Edge). slot_clafer layout.slots e.from == c) layout.targets)
-    ∙ two_kept (λ (e : Edge). slot_clafer layout.slots e.from == c) (λ e f. not (meet bits e f)) layout.targets
+    ∙ kept_two (λ (e : Edge). slot_clafer layout.slots e.from == c) (λ e f. not (meet bits e f)) layout.targets
 
 less : (a b : ℕ) → nat_lt a b ≡ true → a < b
 less a b h = grind (arith, nat_tests)
@@ -212,8 +189,20 @@ uncounted_value clafers layout c all e bits = sym (ap (λ b. all && (not b || ar
 pub counted_value : (clafers : List Clafer) (layout : Layout) (c : ℕ) (edges : List Edge) → is_counted clafers c ≡ true → edges ≡ turned_by (clafer_from layout) layout.targets c → (bits : List Bool) → are_single edges bits ≡ is_single_at clafers layout bits c
 counted_value clafers layout c edges e same bits = ap (λ es. are_single es bits) same ∙ sym (ap (λ b. not b || are_single (turned_by (clafer_from layout) layout.targets c) bits) e)
 
-pub single_cost_is : (clafers : List Clafer) (layout : Layout) (c : ℕ) (edges : List Edge) → is_counted clafers c ≡ true → edges ≡ turned_by (clafer_from layout) layout.targets c → 4 * length edges + 2 ≡ single_cost clafers layout c
-single_cost_is clafers layout c edges e same = ap (λ es. 4 * length es + 2) same ∙ sym (ap (λ b. cond b (4 * length (turned_by (clafer_from layout) layout.targets c) + 2) 0) e)
+pub edgeless_value : (clafers : List Clafer) (layout : Layout) (c : ℕ) (all : Bool) (edges : List Edge) → edges ≡ turned_by (clafer_from layout) layout.targets c → edges ≡ [] → (bits : List Bool) → all ≡ (all && is_single_at clafers layout bits c)
+edgeless_value clafers layout c all edges same none bits = sym (ap (λ es. all && (not (is_counted clafers c) || are_single es bits)) (sym same ∙ none) ∙ free all (is_counted clafers c))
+  where
+    free : (a b : Bool) → (a && (not b || true)) ≡ a
+    free true true = refl
+    free true false = refl
+    free false b = refl
+
+pub single_cost_is : (clafers : List Clafer) (layout : Layout) (c : ℕ) (edges : List Edge) → is_counted clafers c ≡ true → edges ≡ turned_by (clafer_from layout) layout.targets c → 6 * length edges ≡ single_cost clafers layout c
+single_cost_is clafers layout c edges e same = ap (λ es. 6 * length es) same ∙ sym (ap (λ b. cond b (6 * length (turned_by (clafer_from layout) layout.targets c)) 0) e)
+
+pub some_edges : (edges : List Edge) → (edges ≡ [] → ⊥) → 4 * length edges + 2 ≤ 6 * length edges
+some_edges [] h = absurd (h refl)
+some_edges (e ∷ es) h = omega arith
 
 pub none_single : (old new : List Gate) (clafers : List Clafer) (layout : Layout) (wire : Wire) → Extends old new 1 → IsWireOf new wire → ((bits : List Bool) → wire_value new wire bits ≡ true) → AreSingleSoFar old clafers layout 0 (singles_cost clafers layout 0 + 1) new wire
 none_single old new clafers layout wire x w v = record { extends = x; is_wire = w; value = v }
@@ -228,7 +217,7 @@ singles_more old mid new clafers layout n all wire s x w v = record {
       ∙ sym (ap (list_all (is_single_at clafers layout bits)) (numbers-push n) ∙ list_all-push (is_single_at clafers layout bits) (numbers_below n) n);
 }
 
-pub whole_targets : (old first second new : List Gate) (clafers : List Clafer) (layout : Layout) (m n : ℕ) (nested single wire : Wire) → IsOrdered clafers layout → DifferSoFar old clafers layout (length layout.slots) m first nested → AreSingleSoFar first clafers layout (length clafers) n second single
+pub whole_targets : (old first second new : List Gate) (clafers : List Clafer) (layout : Layout) (m n : ℕ) (nested single wire : Wire) → IsOrdered clafers layout → NestedDiffer old clafers layout m first nested → AreSingleSoFar first clafers layout (length clafers) n second single
     → ((bits : List Bool) → wire_value new wire bits ≡ (wire_value second nested bits && wire_value second single bits)) → (bits : List Bool) → wire_value new wire bits ≡ each_two (targets_differ clafers layout bits) (numbers_below (length layout.slots))
 whole_targets old first second new clafers layout m n nested single wire o d e v bits =
     v bits ∙ ap (λ b. b && wire_value second single bits) (e.extends.keeps nested d.is_wire bits ∙ d.value bits)

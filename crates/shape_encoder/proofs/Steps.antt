@@ -1,7 +1,8 @@
 -- Lists that grow by an item, and bits in a circuit that grows.
-use Rattle.std.proofs.Common.{◌≡◌, ℕ, zero, suc, ◌+◌, ◌≤◌, Bool, true, false, ◌&&◌, List, [], ◌∷◌, ◌++◌, map, take, get_or, Some, refl, sym, ap, ◌∙◌, subst, arith}
+use Rattle.std.proofs.Common.{◌≡◌, ℕ, zero, suc, ◌+◌, ◌<◌, ◌≤◌, Bool, true, false, cond, not, ◌&&◌, ◌||◌, List, [], ◌∷◌, ◌++◌, map, take, get_or, Some, refl, sym, ap, ◌∙◌, subst, arith}
 use Rattle.std.specs.Prelude.{slice_get}
-use Rattle.std.specs.List.{All, list_all, range_with_len, sum_by}
+use Rattle.std.specs.Option.{option_map_or}
+use Rattle.std.specs.List.{All, filter, list_all, range_with_len, sum_by}
 use Rattle.std.proofs.lemmas.Option.{get_or_from_slice_get, slice_get_within}
 use Rattle.std.proofs.lemmas.List.{take_more}
 use Rattle.std.proofs.lemmas.List.Elements.{All-head, All-tail}
@@ -10,7 +11,7 @@ use Rattle.std.proofs.lemmas.List.Sums.{sum_by-append, sum_by-cons, sum_by-take-
 use Rattle.bool_circuit.specs.declared.gate.Wire.{Wire}
 use Rattle.bool_circuit.specs.declared.gate.Gate.{Gate}
 use Rattle.bool_circuit.specs.Circuit.{entry, Extends, AreWiresOf, wire_values}
-use Rattle.clf_tree.specs.Lists.{numbers_below}
+use Rattle.clf_tree.specs.Lists.{numbers_below, each_two}
 use Rattle.shape_encoder.specs.Reading.{IsBit}
 
 pub all_item : {X : Type 0} (P : X → Type 0) (xs : List X) (i : ℕ) (x : X) → All P xs → slice_get xs i ≡ Some x → P x
@@ -40,6 +41,31 @@ pub all_same : {X : Type 0} (f g : X → Bool) (xs : List X) → ((x : X) → f 
 all_same f g [] h = refl
 all_same f g (x ∷ xs) h = ap (λ b. b && list_all f xs) (h x) ∙ ap (λ b. g x && b) (all_same f g xs h)
 
+-- ---- a part of a list
+
+pub kept_all : {X : Type 0} (p q : X → Bool) (xs : List X) → list_all q (filter p xs) ≡ list_all (λ x. not (p x) || q x) xs
+kept_all p q [] = refl
+kept_all p q (x ∷ xs) = by (p x) (kept_all p q xs)
+  where
+    by : (b : Bool) → list_all q (filter p xs) ≡ list_all (λ y. not (p y) || q y) xs → list_all q (cond b (x ∷ filter p xs) (filter p xs)) ≡ ((not b || q x) && list_all (λ y. not (p y) || q y) xs)
+    by true rest = ap (λ b. q x && b) rest
+    by false rest = rest
+
+all_free : {X : Type 0} (xs : List X) → list_all (λ (x : X). true) xs ≡ true
+all_free [] = refl
+all_free (x ∷ xs) = all_free xs
+
+pub kept_two : {X : Type 0} (p : X → Bool) (t : X → X → Bool) (xs : List X) → each_two t (filter p xs) ≡ each_two (λ x y. not (p x && p y) || t x y) xs
+kept_two p t [] = refl
+kept_two p t (x ∷ xs) = by (p x) (kept_two p t xs)
+  where
+    rest : Bool
+    rest = each_two (λ y z. not (p y && p z) || t y z) xs
+
+    by : (b : Bool) → each_two t (filter p xs) ≡ rest → each_two t (cond b (x ∷ filter p xs) (filter p xs)) ≡ (list_all (λ y. not (b && p y) || t x y) xs && rest)
+    by true more = ap (λ b. b && each_two t (filter p xs)) (kept_all p (t x) xs) ∙ ap (λ b. list_all (λ y. not (p y) || t x y) xs && b) more
+    by false more = more ∙ ap (λ b. b && rest) (sym (all_free xs))
+
 -- ---- sums
 
 pub sum-push : {X : Type 0} (f : X → ℕ) (xs : List X) (i : ℕ) (x : X) → slice_get xs i ≡ Some x → sum_by f (take (i + 1) xs) ≡ sum_by f (take i xs) + f x
@@ -54,6 +80,25 @@ sum-room f xs i x e =
     let next = sum-push f xs i x e in
     let less = sum_by-take-le f xs (i + 1) in
     omega (arith, next, less)
+
+pub sum-before : {X : Type 0} (f : X → ℕ) (xs : List X) (n m : ℕ) (x : X) → slice_get xs n ≡ Some x → n < m → sum_by f (take n xs) + f x ≤ sum_by f (take m xs)
+sum-before f xs n zero x e h = absurd (omega (arith, h))
+sum-before f [] n (suc m) x e h = absurd (no_item n e)
+  where
+    no_item : (k : ℕ) → slice_get [] k ≡ Some x → ⊥
+    no_item k t = let w = slice_get_within [] k x t in omega (arith, w)
+sum-before f (y ∷ ys) zero (suc m) x e h = first
+  where
+    same : y ≡ x
+    same = ap (λ o. option_map_or (λ z. z) o y) e
+
+    first : sum_by f (take zero (y ∷ ys)) + f x ≤ sum_by f (take (suc m) (y ∷ ys))
+    first = let c = sum_by-cons f y (take m ys) in let d = ap f same in omega (arith, c, d)
+sum-before f (y ∷ ys) (suc n) (suc m) x e h =
+    let r = sum-before f ys n m x e (omega (arith, h)) in
+    let c = sum_by-cons f y (take m ys) in
+    let d = sum_by-cons f y (take n ys) in
+    omega (arith, r, c, d)
 
 -- ---- bits
 

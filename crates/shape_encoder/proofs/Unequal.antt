@@ -26,8 +26,8 @@ use Rattle.shown_instance.specs.Shown.{is_live}
 use Rattle.shown_instance.specs.Distinct.{lead_together, tells_apart, targets_differ, integers_differ, have_sets}
 use Rattle.shown_instance.proofs.Placing.{same_truth}
 use Rattle.shape_encoder.specs.Reading.{IsBit, IsSlotOf}
-use Rattle.shape_encoder.specs.Comparing.{turned_from, joins, IsTiedBy, DifferSoFar, is_on, are_equal, IntegerDiffersSoFar, IntegersDifferSoFar, equal_cost, integer_pair_cost, integer_pairs_cost, own_value_cost, value_cost, values_cost}
-use Rattle.shape_encoder.proofs.Steps.{and_true, all_item, take_item, list_all-push, sum-push, bits_stay, bit_wires, bit_values}
+use Rattle.shape_encoder.specs.Comparing.{turned_from, joins, IsTiedBy, is_on, are_equal, IntegerDiffersSoFar, IntegersDifferSoFar, equal_cost, integer_pair_cost, integer_pairs_cost, own_value_cost, value_cost, values_cost}
+use Rattle.shape_encoder.proofs.Steps.{sum-before, and_true, all_item, take_item, list_all-push, sum-push, bits_stay, bit_wires, bit_values}
 use Rattle.shape_encoder.proofs.Taken.{each_two-push}
 use Rattle.shape_encoder.proofs.Compared.{cost_step, joined_together, clafer_at, sum_below-push, sum_below-room}
 
@@ -132,27 +132,8 @@ own_value_cost_is clafers layout w place ps told p =
 pub value_cost_is : (clafers : List Clafer) (layout : Layout) (place : ℕ) (w : SlotBits) → slice_get layout.values place ≡ Some w → own_value_cost clafers layout w place ≡ value_cost clafers layout place
 value_cost_is clafers layout place w get = sym (ap (λ o. option_map_or (λ v. own_value_cost clafers layout v place) o 0) get)
 
-take_below : {X : Type 0} (f : X → ℕ) (xs : List X) (n m : ℕ) (x : X) → slice_get xs n ≡ Some x → n < m → sum_by f (take n xs) + f x ≤ sum_by f (take m xs)
-take_below f xs n zero x e h = absurd (omega (arith, h))
-take_below f [] n (suc m) x e h = absurd (no_item n e)
-  where
-    no_item : (k : ℕ) → slice_get [] k ≡ Some x → ⊥
-    no_item k t = let w = slice_get_within [] k x t in omega (arith, w)
-take_below f (y ∷ ys) zero (suc m) x e h = first
-  where
-    same : y ≡ x
-    same = ap (λ o. option_map_or (λ z. z) o y) e
-
-    first : sum_by f (take zero (y ∷ ys)) + f x ≤ sum_by f (take (suc m) (y ∷ ys))
-    first = let c = sum_by-cons f y (take m ys) in let d = ap f same in omega (arith, c, d)
-take_below f (y ∷ ys) (suc n) (suc m) x e h =
-    let r = take_below f ys n m x e (omega (arith, h)) in
-    let c = sum_by-cons f y (take m ys) in
-    let d = sum_by-cons f y (take n ys) in
-    omega (arith, r, c, d)
-
 pub integers_room : (layout : Layout) (w : SlotBits) (n place : ℕ) (v : SlotBits) → slice_get layout.values n ≡ Some v → n < place → integer_pairs_cost layout w n + integer_pair_cost layout v w ≤ integer_pairs_cost layout w place
-integers_room layout w n place v get l = take_below (λ u. integer_pair_cost layout u w) layout.values n place v get l
+integers_room layout w n place v get l = sum-before (λ u. integer_pair_cost layout u w) layout.values n place v get l
 
 -- ---- the loops
 

@@ -1,5 +1,5 @@
 -- How far slots are compared with each other.
-use Rattle.std.specs.Prelude.{◌≡◌, ◌+◌, ◌*◌, ◌<◌, ℕ, Bool, ◌&&◌, ◌||◌, ◌==◌, List, [], length, map, Option, if◌then◌else◌, slice_index_or, slice_get, take, is_none, is_some, nat_lt, not, true, false, max}
+use Rattle.std.specs.Prelude.{◌≡◌, ◌+◌, ◌-◌, ◌*◌, ◌^◌, ◌<◌, ℕ, Bool, ◌&&◌, ◌||◌, ◌==◌, List, [], length, map, Option, if◌then◌else◌, slice_index_or, slice_get, take, is_none, is_some, nat_lt, not, true, false, min, max}
 use Rattle.std.specs.Option.{option_map_or}
 use Rattle.std.specs.List.{All, filter, list_all, list_any, sum_by}
 use Rattle.bool_circuit.specs.declared.gate.Wire.{Wire}
@@ -14,11 +14,13 @@ use Rattle.set_bits.specs.declared.layout.Layout.{Layout}
 use Rattle.set_bits.specs.Showing.{value_bits}
 use Rattle.integer_bits.specs.Numbers.{integer_of}
 use Rattle.std.specs.Ordering.{int_eq}
+use Rattle.std.specs.declared.vec.Vec.{Vec}
 use Rattle.set_bits.specs.Fitting.{slot_clafer}
 use Rattle.set_bits.specs.Sets.{is_here}
 use Rattle.set_bits.specs.Reaching.{wire_at}
 use Rattle.set_bits.specs.Reaching.{IsTableOf}
-use Rattle.shown_instance.specs.Consistent.{are_single}
+use Rattle.shape_encoder.specs.Reading.{IsBit}
+use Rattle.shown_instance.specs.Consistent.{has_taken, are_single}
 use Rattle.shown_instance.specs.Distinct.{leads_there, lead_together, allows_two, tells_apart, targets_differ, integers_differ}
 
 -- whether two instances of a clafer can have one parent, or none
@@ -68,9 +70,21 @@ is_paired clafers c = tells_apart clafers c && is_some (parent_of clafers c)
 abbrev pub nested_differ : List Clafer → Layout → List Bool → ℕ → ℕ → Bool
 nested_differ clafers layout bits i j = not (is_some (parent_of clafers (slot_clafer layout.slots i))) || targets_differ clafers layout bits i j
 
--- whether two slots of one clafer have one parent and one target
-abbrev pub are_twins : Layout → List Bool → ℕ → ℕ → Bool
-are_twins layout bits i j = (slot_clafer layout.slots i == slot_clafer layout.slots j) && (lead_together layout.parents bits i j && lead_together layout.targets bits i j)
+-- the slots of a clafer among the first n, in order
+abbrev pub kin_below : Layout → ℕ → ℕ → List ℕ
+kin_below layout n c = filter (λ i. slot_clafer layout.slots i == c) (numbers_below n)
+
+abbrev pub kin_of : Layout → ℕ → List ℕ
+kin_of layout c = kin_below layout (length layout.slots) c
+
+-- at each of the first clafers its slots among the first n
+pub record HoldsKin (layout : Layout) (n : ℕ) (count : ℕ) (table : List (List ℕ)) : Type 0 where
+  pub len : length table ≡ count
+  pub at : (c : ℕ) → c < count → slice_index_or table c [] ≡ kin_below layout n c
+
+-- whether taken edges of two lists lead from one slot
+abbrev pub meet : List Bool → List Edge → List Edge → Bool
+meet bits es fs = list_any (λ e. has_taken fs bits e.from && entry bits e.here) es
 
 -- one edge before another: by the slot from which they lead, then by the other
 abbrev pub leads_before : Edge → Edge → Bool
@@ -97,17 +111,133 @@ pub record IsTiedBy (gates : List Gate) (edges : List Edge) (slot : ℕ) (table 
   pub wires : IsTableOf gates table
   pub leads : (bits : List Bool) (k : ℕ) → is_here gates (wire_at table k) bits ≡ leads_there edges bits slot k
 
--- a wire that is true where a slot has no twin among the first n ones
-pub record HasNoTwinSoFar (old : List Gate) (layout : Layout) (slot n : ℕ) (cost : ℕ) (new : List Gate) (wire : Wire) : Type 0 where
-  pub extends : Extends old new cost
-  pub is_wire : IsWireOf new wire
-  pub value : (bits : List Bool) → wire_value new wire bits ≡ list_all (λ j. not (are_twins layout bits j slot)) (numbers_below n)
+-- a wire for each slot from which an edge of a list leads
+pub record IsMadeOf (gates : List Gate) (edges : List Edge) (table : List (Option Wire)) : Type 0 where
+  pub wires : IsTableOf gates table
+  pub leads : (bits : List Bool) (k : ℕ) → is_here gates (wire_at table k) bits ≡ has_taken edges bits k
 
--- a wire that is true where the first n slots of nested clafers differ from each other
-pub record DifferSoFar (old : List Gate) (clafers : List Clafer) (layout : Layout) (n : ℕ) (cost : ℕ) (new : List Gate) (wire : Wire) : Type 0 where
+-- and of its first n edges
+pub record IsMadeSoFar (old : List Gate) (edges : List Edge) (n : ℕ) (new : List Gate) (table : List (Option Wire)) : Type 0 where
+  pub extends : Extends old new n
+  pub made : IsMadeOf new (take n edges) table
+
+-- ---- what is seen: by parent, then by target, a wire
+
+abbrev pub row_at : {A : Type 0} → List (Vec (Option Wire) A) → ℕ → List (Option Wire)
+row_at rows p = option_map_or (λ row. row.items) (slice_get rows p) []
+
+abbrev pub is_seen : {A : Type 0} → List Gate → List (Vec (Option Wire) A) → List Bool → ℕ → ℕ → Bool
+is_seen gates rows bits p t = is_here gates (wire_at (row_at rows p) t) bits
+
+-- the wires are of the circuit
+pub record AreRowsOf {A : Type 0} (gates : List Gate) (rows : List (Vec (Option Wire) A)) : Type 0 where
+  pub at : (p : ℕ) → IsTableOf gates (row_at rows p)
+
+-- whether an edge to a parent is taken below which one of the targets is seen
+abbrev pub is_met : {A : Type 0} → List Gate → List (Vec (Option Wire) A) → List Bool → List Edge → Edge → Bool
+is_met gates rows bits targets e = list_any (joins gates (row_at rows e.from) bits) targets && entry bits e.here
+
+-- a wire that is true where one of the first n edges to parents is such
+pub record HaveMetSoFar {A : Type 0} (old : List Gate) (rows : List (Vec (Option Wire) A)) (parents targets : List Edge) (n : ℕ) (new : List Gate) (wire : Wire) : Type 0 where
+  pub extends : Extends old new (n * (2 * length targets + 3) + 1)
+  pub is_wire : IsWireOf new wire
+  pub value : (bits : List Bool) → wire_value new wire bits ≡ list_any (is_met old rows bits targets) (take n parents)
+
+-- a row that has the first n targets of a wire more
+pub record IsMarkedSoFar (old : List Gate) (here : Wire) (targets : List Edge) (before : List (Option Wire)) (n : ℕ) (new : List Gate) (row : List (Option Wire)) : Type 0 where
+  pub extends : Extends old new (2 * n)
+  pub wires : IsTableOf new row
+  pub value : (bits : List Bool) (t : ℕ) → is_here new (wire_at row t) bits ≡ (is_here old (wire_at before t) bits || (wire_value old here bits && has_taken (take n targets) bits t))
+
+-- rows that have the targets below the first n parents more
+pub record AreMarkedSoFar {A : Type 0} (old : List Gate) (parents targets : List Edge) (before : List (Vec (Option Wire) A)) (n : ℕ) (new : List Gate) (rows : List (Vec (Option Wire) A)) : Type 0 where
+  pub extends : Extends old new (n * (2 * length targets))
+  pub wires : AreRowsOf new rows
+  pub value : (bits : List Bool) (p t : ℕ) → is_seen new rows bits p t ≡ (is_seen old before bits p t || (has_taken (take n parents) bits p && has_taken targets bits t))
+
+-- ---- slots with their edges to parents and to targets, turned round
+
+-- some slots have such edges, whose wires are those of bits
+pub record AreTies (gates : List Gate) (kin : List ℕ) (parents targets : List (List Edge)) : Type 0 where
+  pub parents_known : All (λ i. i < length parents) kin
+  pub targets_known : All (λ i. i < length targets) kin
+  pub parent_bits : (i : ℕ) → i < length parents → All (λ e. IsBit gates e.here) (list_at parents i)
+  pub target_bits : (i : ℕ) → i < length targets → All (λ e. IsBit gates e.here) (list_at targets i)
+
+module _ (parents targets : List (List Edge)) where
+  -- whether two slots have one parent and one target
+  abbrev pub are_twins : List Bool → ℕ → ℕ → Bool
+  are_twins bits j i = meet bits (list_at parents j) (list_at parents i) && meet bits (list_at targets j) (list_at targets i)
+
+  -- whether a slot has a parent and a target
+  abbrev pub is_below_onto : List Bool → ℕ → ℕ → ℕ → Bool
+  is_below_onto bits p t i = has_taken (list_at parents i) bits p && has_taken (list_at targets i) bits t
+
+  -- how many wires a slot takes that is compared with a later one
+  abbrev pub twin_cost : ℕ → ℕ
+  twin_cost j = 2 * length (list_at parents j) + 2 * length (list_at targets j) + 5
+
+  -- a slot that is compared with those before it
+  abbrev pub place_cost : List ℕ → ℕ → ℕ
+  place_cost kin n = length (list_at parents (slice_index_or kin n 0)) + length (list_at targets (slice_index_or kin n 0)) + sum_by twin_cost (take n kin)
+
+  -- slots that are compared two by two
+  abbrev pub twins_cost : List ℕ → ℕ → ℕ
+  twins_cost kin n = sum_by (place_cost kin) (numbers_below n)
+
+  -- a slot whose parents and targets are counted
+  abbrev pub counted_cost : ℕ → ℕ
+  counted_cost i = length (list_at parents i) * (4 * length (list_at targets i) + 3) + 3
+
+  -- slots whose parents and targets are counted
+  abbrev pub siblings_cost : List ℕ → ℕ
+  siblings_cost kin = sum_by counted_cost kin
+
+  -- a wire that is true where another one is and the first n of some slots are no twins of one with these parents and targets
+  pub record HasNoTwinSoFar (old : List Gate) (kin : List ℕ) (ups ontos : List Edge) (all : Wire) (n : ℕ) (new : List Gate) (wire : Wire) : Type 0 where
+    pub extends : Extends old new (length ups + length ontos + sum_by twin_cost (take n kin))
+    pub is_wire : IsWireOf new wire
+    pub value : (bits : List Bool) → wire_value new wire bits ≡ (wire_value old all bits && list_all (λ j. not (meet bits (list_at parents j) ups && meet bits (list_at targets j) ontos)) (take n kin))
+
+  -- a wire that is true where another one is and the first n of some slots have no twins among them
+  pub record AreAloneSoFar (old : List Gate) (kin : List ℕ) (all : Wire) (n : ℕ) (cost : ℕ) (new : List Gate) (wire : Wire) : Type 0 where
+    pub extends : Extends old new cost
+    pub is_wire : IsWireOf new wire
+    pub value : (bits : List Bool) → wire_value new wire bits ≡ (wire_value old all bits && each_two (λ j i. not (are_twins bits j i)) (take n kin))
+
+  -- and what is seen of them
+  pub record AreCountedSoFar {A : Type 0} (old : List Gate) (kin : List ℕ) (all : Wire) (n : ℕ) (new : List Gate) (rows : List (Vec (Option Wire) A)) (wire : Wire) : Type 0 where
+    pub alone : AreAloneSoFar old kin all n (siblings_cost (take n kin)) new wire
+    pub wires : AreRowsOf new rows
+    pub seen : (bits : List Bool) (p t : ℕ) → is_seen new rows bits p t ≡ list_any (is_below_onto bits p t) (take n kin)
+
+-- a number as far as a machine word holds it
+abbrev pub told : ℕ → ℕ
+told n = min n (2 ^ 64 - 1)
+
+-- what the first n slots take if they are counted, if they are compared two by two, and what they take beside a later one
+pub record AreCostsSoFar (parents targets : List (List Edge)) (kin : List ℕ) (n : ℕ) (counted paired beside : ℕ) : Type 0 where
+  pub counted_is : counted ≡ told (siblings_cost parents targets (take n kin))
+  pub paired_is : paired ≡ told (twins_cost parents targets kin n)
+  pub beside_is : beside ≡ told (sum_by (twin_cost parents targets) (take n kin))
+
+-- ---- all slots of nested clafers
+
+-- whether the slots of a clafer have different targets, if it is nested
+abbrev pub kin_differ : List Clafer → Layout → List Bool → ℕ → Bool
+kin_differ clafers layout bits c = each_two (nested_differ clafers layout bits) (kin_of layout c)
+
+-- a wire that is true where the slots of each of the first n clafers are such
+pub record KinDifferSoFar (old : List Gate) (clafers : List Clafer) (layout : Layout) (n : ℕ) (cost : ℕ) (new : List Gate) (wire : Wire) : Type 0 where
   pub extends : Extends old new cost
   pub is_wire : IsWireOf new wire
-  pub value : (bits : List Bool) → wire_value new wire bits ≡ each_two (nested_differ clafers layout bits) (numbers_below n)
+  pub value : (bits : List Bool) → wire_value new wire bits ≡ list_all (kin_differ clafers layout bits) (numbers_below n)
+
+-- a wire that is true where no two slots of one nested clafer that has to differ have one parent and one target
+pub record NestedDiffer (old : List Gate) (clafers : List Clafer) (layout : Layout) (cost : ℕ) (new : List Gate) (wire : Wire) : Type 0 where
+  pub extends : Extends old new cost
+  pub is_wire : IsWireOf new wire
+  pub value : (bits : List Bool) → wire_value new wire bits ≡ each_two (nested_differ clafers layout bits) (numbers_below (length layout.slots))
 
 -- a wire that is true where no two edges of one of the first n clafers, if it has to differ at top level, lead to one slot
 pub record AreSingleSoFar (old : List Gate) (clafers : List Clafer) (layout : Layout) (n : ℕ) (cost : ℕ) (new : List Gate) (wire : Wire) : Type 0 where
@@ -125,20 +255,42 @@ pair_cost layout j i = if slot_clafer layout.slots j == slot_clafer layout.slots
 abbrev pub pairs_cost : Layout → ℕ → ℕ → ℕ
 pairs_cost layout i n = sum_by (λ j. pair_cost layout j i) (numbers_below n)
 
+-- for a slot that is compared with the ones before it, at most
+abbrev pub alone_cost : Layout → ℕ → ℕ
+alone_cost layout i = ((4 * length (turned_from layout.parents i) + 1) + (4 * length (turned_from layout.targets i) + 1)) + (pairs_cost layout i i + 1) + 1
+
 abbrev pub slot_cost : List Clafer → Layout → ℕ → ℕ
-slot_cost clafers layout i =
-    if is_paired clafers (slot_clafer layout.slots i)
-    then ((4 * length (turned_from layout.parents i) + 1) + (4 * length (turned_from layout.targets i) + 1)) + (pairs_cost layout i i + 1) + 1 else 0
+slot_cost clafers layout i = if is_paired clafers (slot_clafer layout.slots i) then alone_cost layout i else 0
 
 abbrev pub slots_cost : List Clafer → Layout → ℕ → ℕ
 slots_cost clafers layout n = sum_by (slot_cost clafers layout) (numbers_below n)
 
+-- for all slots of nested clafers, if they are compared two by two
 abbrev pub targets_cost : List Clafer → Layout → ℕ
 targets_cost clafers layout = slots_cost clafers layout (length layout.slots) + 1
 
+-- for a slot whose parents and targets are counted
+abbrev pub sibling_cost : Layout → ℕ → ℕ
+sibling_cost layout i = length (turned_from layout.parents i) * (4 * length (turned_from layout.targets i) + 3) + 3
+
+-- for a slot that is compared with the ones before it
+abbrev pub compared_cost : Layout → ℕ → ℕ
+compared_cost layout i = length (turned_from layout.parents i) + length (turned_from layout.targets i) + pairs_cost layout i i
+
+-- for the slots of a clafer, in the form that takes fewer wires: counted, or compared two by two
+abbrev pub kin_cost : List Clafer → Layout → ℕ → ℕ
+kin_cost clafers layout c = if is_paired clafers c then min (sum_by (sibling_cost layout) (kin_of layout c)) (sum_by (compared_cost layout) (kin_of layout c)) else 0
+
+abbrev pub kins_cost : List Clafer → Layout → ℕ → ℕ
+kins_cost clafers layout n = sum_by (kin_cost clafers layout) (numbers_below n)
+
+-- for all slots of nested clafers
+abbrev pub nested_cost : List Clafer → Layout → ℕ
+nested_cost clafers layout = kins_cost clafers layout (length clafers) + 1
+
 -- for the edges of a clafer
 abbrev pub single_cost : List Clafer → Layout → ℕ → ℕ
-single_cost clafers layout c = if is_counted clafers c then 4 * length (turned_by (clafer_from layout) layout.targets c) + 2 else 0
+single_cost clafers layout c = if is_counted clafers c then 6 * length (turned_by (clafer_from layout) layout.targets c) else 0
 
 abbrev pub singles_cost : List Clafer → Layout → ℕ → ℕ
 singles_cost clafers layout n = sum_by (single_cost clafers layout) (numbers_below n)
@@ -183,10 +335,10 @@ value_cost clafers layout k = option_map_or (λ v. own_value_cost clafers layout
 abbrev pub values_cost : List Clafer → Layout → ℕ → ℕ
 values_cost clafers layout n = sum_by (value_cost clafers layout) (numbers_below n)
 
-abbrev pub sets_cost : List Clafer → Layout → ℕ
-sets_cost clafers layout = targets_cost clafers layout + (singles_cost clafers layout (length clafers) + 1) + (values_cost clafers layout (length layout.values) + 1) + 2
+-- for all set references, where the slots of nested clafers are compared two by two
+abbrev pub pairs_sets_cost : List Clafer → Layout → ℕ
+pairs_sets_cost clafers layout = targets_cost clafers layout + (singles_cost clafers layout (length clafers) + 1) + (values_cost clafers layout (length layout.values) + 1) + 2
 
--- as many wires at most for so many slots, clafers, target edges and integers, where a slot has p parent edges, t target edges and an integer of b bits at most
-abbrev pub sets_bound : ℕ → ℕ → ℕ → ℕ → ℕ → ℕ → ℕ → ℕ
-sets_bound slots clafers edges integers p t b =
-    slots * ((4 * p + 4 * t + 4) + slots * (2 * p + 2 * t + 5)) + clafers * (4 * edges + 2) + integers * ((4 * p + 3) + integers * (2 * p + 4 * b + 10)) + 5
+-- and where each nested clafer takes the form with fewer wires
+abbrev pub sets_cost : List Clafer → Layout → ℕ
+sets_cost clafers layout = nested_cost clafers layout + (singles_cost clafers layout (length clafers) + 1) + (values_cost clafers layout (length layout.values) + 1) + 2

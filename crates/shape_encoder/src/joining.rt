@@ -1,15 +1,15 @@
 //! What joins two slots: edges of both that lead to one slot.
 
-ghost use Rattle.std.specs.Prelude.{◌≡◌, ◌++◌, ◌∷◌, [], ℕ, ◌+◌, ◌*◌, ◌<◌, ◌≤◌, Bool, ◌&&◌, length, replicate, IfOk, IfSome, OnOk, All, List as Items};
+ghost use Rattle.std.specs.Prelude.{◌≡◌, ◌++◌, ◌∷◌, [], ℕ, ◌+◌, ◌*◌, ◌<◌, ◌≤◌, Bool, ◌||◌, ◌&&◌, length, nat_eq, replicate, IfOk, IfSome, OnOk, All, List as Items};
 ghost use Rattle.bool_circuit.specs.Circuit.{wire_value, IsWireOf, Extends};
 ghost use Rattle.bool_circuit.specs.declared.circuit.TheConstants.{MOST_WIRES};
 ghost use Rattle.set_bits.specs.declared.layout.Edge.{Edge as AnEdge};
 ghost use Rattle.set_bits.specs.Sets.{is_here};
-ghost use Rattle.set_bits.specs.Reaching.{IsTableOf};
+ghost use Rattle.set_bits.specs.Reaching.{wire_at, IsTableOf};
 ghost use Rattle.shape_encoder.specs.Reading.{IsBit};
-ghost use Rattle.shape_encoder.specs.Comparing.{HoldsBy, HoldsEdges, clafer_from, IsJoinedSoFar, turned_from, IsTiedBy};
+ghost use Rattle.shape_encoder.specs.Comparing.{HoldsBy, HoldsEdges, clafer_from, IsJoinedSoFar, turned_from, IsMadeSoFar, IsTiedBy};
 
-use crate::taking::{take_edges, wire_of};
+use crate::taking::{either, put, take_edges, wire_of};
 use bool_circuit::{Circuit, MOST_WIRES, Wire};
 use clf_base::{List, NoMemory};
 use set_bits::{Edge, Layout};
@@ -125,4 +125,42 @@ pub(crate) fn tie(
 {
     let taken = take_edges(alloc, circuit, edges)?;
     Ok(taken.wires)
+}
+
+// Gives the slot from which an edge leads its wire.
+fn add_end(
+    circuit: &mut Circuit,
+    wires: &mut Vec<Option<Wire>>,
+    edge: Edge,
+) -> Result<(), NoMemory>
+    requires table { IsTableOf circuit.old wires.old.items }
+    requires edge_in { IsWireOf circuit.old edge.here }
+    requires room { length circuit.old + 1 ≤ MOST_WIRES }
+    ensures table { OnOk result (IsTableOf circuit.new wires.new.items) }
+    ensures value { OnOk result ((bits : Items Bool) (k : ℕ) → is_here circuit.new (wire_at wires.new.items k) bits ≡ (is_here circuit.old (wire_at wires.old.items k) bits || (nat_eq edge.from k && wire_value circuit.old edge.here bits))) }
+    ensures extends { Extends circuit.old circuit.new 1 }
+{
+    let before = wire_of(wires, edge.from as usize);
+    let some = either(circuit, before, edge.here)?;
+    put(wires, edge.from, some)?;
+    Ok(())
+}
+
+/// A wire for each slot from which one of the edges leads.
+pub(crate) fn ends_of(
+    alloc: Global,
+    circuit: &mut Circuit,
+    edges: &List<Edge>,
+) -> Result<Vec<Option<Wire>>, NoMemory>
+    requires bits { All (λ e. IsBit circuit.old e.here) edges.now }
+    requires room { length circuit.old + length edges.now ≤ MOST_WIRES }
+    ensures made { IfOk result (λ table. IsMadeSoFar circuit.old edges.now (length edges.now) circuit.new table.items) }
+    ensures extends { Extends circuit.old circuit.new (length edges.now) }
+{
+    let mut wires = Vec::new(alloc);
+    for at in 0..edges.len() {
+        let edge = *edges.get(at);
+        add_end(circuit, &mut wires, edge)?;
+    }
+    Ok(wires)
 }

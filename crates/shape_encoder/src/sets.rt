@@ -1,6 +1,6 @@
 //! Whether set references tell nodes apart.
 
-ghost use Rattle.std.specs.Prelude.{◌≡◌, ℕ, ◌+◌, ◌^◌, ◌<◌, ◌≤◌, Bool, length, IfOk, All, List as Items};
+ghost use Rattle.std.specs.Prelude.{◌≡◌, ◌+◌, ◌^◌, ◌<◌, ◌≤◌, Bool, length, IfOk, All, List as Items};
 ghost use Rattle.bool_circuit.specs.Circuit.{wire_value, IsWireOf, Extends};
 ghost use Rattle.bool_circuit.specs.declared.circuit.TheConstants.{MOST_WIRES};
 ghost use Rattle.shape_encoder.specs.Reading.{IsLaid};
@@ -9,7 +9,7 @@ ghost use Rattle.clf_tree.specs.declared.scopes.Scopes.{Scopes};
 ghost use Rattle.set_bits.specs.declared.layout.Layout.{Layout as ALayout};
 ghost use Rattle.set_bits.specs.Fitting.{Fits};
 ghost use Rattle.shown_instance.specs.Distinct.{have_sets};
-ghost use Rattle.shape_encoder.specs.Comparing.{IsOrdered, sets_cost, sets_bound, turned_from};
+ghost use Rattle.shape_encoder.specs.Comparing.{IsOrdered, sets_cost, pairs_sets_cost};
 
 use crate::equality::integers_are_different;
 use crate::joining::edges_of_slots;
@@ -25,9 +25,9 @@ use std::alloc::Global;
 /// kind, which have one parent, or are of a top-level clafer. A nested clafer with at most one instance below a parent takes no wires, since
 /// its multiplicity says so already.
 ///
-/// At top level the edges to a target are counted, with four wires an edge. Below parents, and with integers, slots of a clafer are compared
-/// two by two: with two wires for each edge of the earlier one, and four a bit. So a top-level clafer takes wires as it has edges, and not as
-/// it has pairs of slots.
+/// At top level the edges to a target are counted. The slots of a nested clafer are compared two by two, or counted for each parent and target,
+/// whichever takes fewer wires; integers are compared two by two. Only slots of one clafer are compared. The time is at most that of clafers
+/// times slots, and of the wires.
 pub fn have_sets(
     alloc: Global,
     circuit: &mut Circuit,
@@ -56,8 +56,7 @@ pub fn layouts_that_fit_are_ordered()
     ensures { (clafers : Items AClafer) (scopes : Scopes) (layout : ALayout) → Fits clafers scopes layout → IsOrdered clafers layout }
 {}
 
-/// How many wires set references take at most: as many as clafers have target edges at top level, and as there are pairs of slots below
-/// parents, or with integers.
+/// Set references take no more wires than if the slots of each nested clafer were compared two by two.
 pub fn sets_take_few_wires()
-    ensures { (clafers : Items AClafer) (layout : ALayout) (p t b : ℕ) → ((i : ℕ) → length (turned_from layout.parents i) ≤ p) → ((i : ℕ) → length (turned_from layout.targets i) ≤ t) → All (λ v. length v.bits ≤ b) layout.values → sets_cost clafers layout ≤ sets_bound (length layout.slots) (length clafers) (length layout.targets) (length layout.values) p t b }
+    ensures { (clafers : Items AClafer) (layout : ALayout) → sets_cost clafers layout ≤ pairs_sets_cost clafers layout }
 {}

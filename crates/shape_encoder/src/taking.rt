@@ -30,8 +30,8 @@ pub(crate) fn wire_of(table: &Vec<Option<Wire>>, slot: usize) -> Option<Wire>
     }
 }
 
-// Gives a slot a wire.
-fn put(table: &mut Vec<Option<Wire>>, slot: u32, wire: Wire) -> Result<(), NoMemory>
+/// Gives a slot a wire.
+pub(crate) fn put(table: &mut Vec<Option<Wire>>, slot: u32, wire: Wire) -> Result<(), NoMemory>
     ensures { OnOk result ((k : ℕ) → wire_at table.new.items k ≡ (if nat_eq slot k then Some wire else wire_at table.old.items k)) }
 {
     while table.len() <= slot as usize {
@@ -66,8 +66,8 @@ fn not_twice(
     }
 }
 
-// True where either is.
-fn either(circuit: &mut Circuit, before: Option<Wire>, here: Wire) -> Result<Wire, NoMemory>
+/// True where either is.
+pub(crate) fn either(circuit: &mut Circuit, before: Option<Wire>, here: Wire) -> Result<Wire, NoMemory>
     requires before_in { IfSome before (IsWireOf circuit.old) }
     requires here_in { IsWireOf circuit.old here }
     requires room { length circuit.old + 1 ≤ MOST_WIRES }

@@ -7,12 +7,13 @@ ghost use Rattle.shape_encoder.specs.Reading.{IsBit};
 ghost use Rattle.shown_instance.specs.Distinct.{targets_differ};
 ghost use Rattle.clf_tree.specs.Lists.{numbers_below, each_two};
 ghost use Rattle.shown_instance.specs.Consistent.{are_single};
-ghost use Rattle.shape_encoder.specs.Comparing.{HoldsBy, HoldsEdges, clafer_from, is_single_at, IsOrdered, turned_by, AreSingleSoFar, targets_cost, single_cost, singles_cost};
+ghost use Rattle.shape_encoder.specs.Comparing.{HoldsBy, HoldsEdges, clafer_from, is_single_at, IsOrdered, turned_by, AreSingleSoFar, nested_cost, single_cost, singles_cost};
 
 use crate::joining::edges_of_clafers;
+use crate::nested::nested_differ;
 use crate::taking::take_edges;
 use crate::telling::is_counted;
-use crate::twins::{Ties, nested_differ};
+use crate::twins::Ties;
 use bool_circuit::{Circuit, MOST_WIRES, Wire};
 use clf_base::{List, NoMemory};
 use clf_tree::Clafer;
@@ -60,6 +61,9 @@ fn and_clafer(
     if !is_counted(clafers, clafer) {
         return Ok(all);
     }
+    if edges.is_empty() {
+        return Ok(all);
+    }
     let right = and_single(alloc, circuit, edges, all)?;
     Ok(right)
 }
@@ -101,10 +105,10 @@ pub(crate) fn targets_differ(
     requires targets { HoldsEdges layout.now.targets (length layout.now.slots) ties.now.targets.items }
     requires parent_bits { All (λ e. IsBit circuit.old e.here) layout.now.parents }
     requires target_bits { All (λ e. IsBit circuit.old e.here) layout.now.targets }
-    requires room { length circuit.old + (targets_cost clafers.now layout.now + (singles_cost clafers.now layout.now (length clafers.now) + 1) + 1) ≤ MOST_WIRES }
+    requires room { length circuit.old + (nested_cost clafers.now layout.now + (singles_cost clafers.now layout.now (length clafers.now) + 1) + 1) ≤ MOST_WIRES }
     ensures wire { IfOk result (IsWireOf circuit.new) }
     ensures value { IfOk result (λ w. (bits : Items Bool) → wire_value circuit.new w bits ≡ each_two (targets_differ clafers.now layout.now bits) (numbers_below (length layout.now.slots))) }
-    ensures extends { Extends circuit.old circuit.new (targets_cost clafers.now layout.now + (singles_cost clafers.now layout.now (length clafers.now) + 1) + 1) }
+    ensures extends { Extends circuit.old circuit.new (nested_cost clafers.now layout.now + (singles_cost clafers.now layout.now (length clafers.now) + 1) + 1) }
 {
     let table = edges_of_clafers(alloc, layout, clafers.len())?;
     let nested = nested_differ(alloc, circuit, clafers, layout, ties)?;

@@ -1,24 +1,20 @@
-//! Whether slots of nested clafers have twins: slots of the same clafer with their parent and their target.
+//! Whether some slots have twins among them: slots with their parent and their target. They are compared two by two.
 
-ghost use Rattle.std.specs.Prelude.{◌≡◌, ℕ, ◌+◌, ◌*◌, ◌<◌, ◌≤◌, Bool, not, ◌&&◌, length, IfOk, All, List as Items};
-ghost use Rattle.std.specs.List.{list_all, list_any};
+ghost use Rattle.std.specs.Prelude.{◌≡◌, ◌+◌, ◌*◌, ◌<◌, ◌≤◌, Bool, not, ◌&&◌, length, take, slice_index_or, IfOk, All, List as Items};
+ghost use Rattle.std.specs.List.{list_all, list_any, sum_by};
 ghost use Rattle.bool_circuit.specs.Circuit.{wire_value, IsWireOf, Extends};
 ghost use Rattle.bool_circuit.specs.declared.circuit.TheConstants.{MOST_WIRES};
-ghost use Rattle.set_bits.specs.declared.layout.Edge.{Edge as AnEdge};
 ghost use Rattle.set_bits.specs.Reaching.{IsTableOf};
 ghost use Rattle.shape_encoder.specs.Reading.{IsBit};
-ghost use Rattle.clf_tree.specs.Lists.{numbers_below};
-ghost use Rattle.shape_encoder.specs.Comparing.{HoldsEdges, nested_differ, are_twins, joins, turned_from, IsTiedBy, HasNoTwinSoFar, DifferSoFar, pair_cost, pairs_cost, slot_cost, targets_cost};
+ghost use Rattle.shape_encoder.specs.Comparing.{joins, IsMadeOf, AreTies, are_twins, twin_cost, place_cost, twins_cost, HasNoTwinSoFar, AreAloneSoFar};
 
-use crate::joining::{join, tie};
-use crate::telling::is_paired;
+use crate::joining::{ends_of, join};
 use bool_circuit::{Circuit, MOST_WIRES, Wire};
 use clf_base::{List, NoMemory};
-use clf_tree::Clafer;
-use set_bits::{Edge, Layout};
+use set_bits::Edge;
 use std::alloc::Global;
 
-// The edges of the slots to their parents and to their targets, turned round.
+/// The edges of the slots to their parents and to their targets, turned round.
 #[derive(Drop)]
 pub(crate) struct Ties {
     pub(crate) parents: Vec<List<Edge>>,
@@ -78,65 +74,6 @@ fn and_apart(
     Ok(right)
 }
 
-// True where `all` is and two slots, if they are of one clafer, have different parents or different targets.
-fn and_no_twin(
-    circuit: &mut Circuit,
-    layout: &Layout,
-    ties: &Ties,
-    later: &Tied,
-    slot: usize,
-    earlier: usize,
-    all: Wire,
-) -> Result<Wire, NoMemory>
-    requires slot_in { slot < length layout.now.slots }
-    requires earlier_in { earlier < slot }
-    requires parents { HoldsEdges layout.now.parents (length layout.now.slots) ties.now.parents.items }
-    requires targets { HoldsEdges layout.now.targets (length layout.now.slots) ties.now.targets.items }
-    requires parent_bits { All (λ e. IsBit circuit.old e.here) layout.now.parents }
-    requires target_bits { All (λ e. IsBit circuit.old e.here) layout.now.targets }
-    requires parents_by { IsTiedBy circuit.old layout.now.parents slot later.now.parents.items }
-    requires targets_by { IsTiedBy circuit.old layout.now.targets slot later.now.targets.items }
-    requires all_in { IsWireOf circuit.old all }
-    requires room { length circuit.old + pair_cost layout.now earlier slot ≤ MOST_WIRES }
-    ensures wire { IfOk result (IsWireOf circuit.new) }
-    ensures value { IfOk result (λ w. (bits : Items Bool) → wire_value circuit.new w bits ≡ (wire_value circuit.old all bits && not (are_twins layout.now bits earlier slot))) }
-    ensures extends { Extends circuit.old circuit.new (pair_cost layout.now earlier slot) }
-{
-    if layout.slots.get(earlier).clafer != layout.slots.get(slot).clafer {
-        return Ok(all);
-    }
-    let parents = &ties.parents[earlier];
-    let targets = &ties.targets[earlier];
-    let right = and_apart(circuit, later, parents, targets, all)?;
-    Ok(right)
-}
-
-// Whether no earlier slot of a slot's clafer has its parent and its target.
-fn has_no_twin(
-    circuit: &mut Circuit,
-    layout: &Layout,
-    ties: &Ties,
-    later: &Tied,
-    slot: usize,
-) -> Result<Wire, NoMemory>
-    requires slot_in { slot < length layout.now.slots }
-    requires parents { HoldsEdges layout.now.parents (length layout.now.slots) ties.now.parents.items }
-    requires targets { HoldsEdges layout.now.targets (length layout.now.slots) ties.now.targets.items }
-    requires parent_bits { All (λ e. IsBit circuit.old e.here) layout.now.parents }
-    requires target_bits { All (λ e. IsBit circuit.old e.here) layout.now.targets }
-    requires parents_by { IsTiedBy circuit.old layout.now.parents slot later.now.parents.items }
-    requires targets_by { IsTiedBy circuit.old layout.now.targets slot later.now.targets.items }
-    requires room { length circuit.old + (pairs_cost layout.now slot slot + 1) ≤ MOST_WIRES }
-    ensures alone { IfOk result (HasNoTwinSoFar circuit.old layout.now slot slot (pairs_cost layout.now slot slot + 1) circuit.new) }
-    ensures extends { Extends circuit.old circuit.new (pairs_cost layout.now slot slot + 1) }
-{
-    let mut all = circuit.constant(true)?;
-    for earlier in 0..slot {
-        all = and_no_twin(circuit, layout, ties, later, slot, earlier, all)?;
-    }
-    Ok(all)
-}
-
 // The wires of the slots that may be a slot's parent or target.
 fn tie_slot(
     alloc: Global,
@@ -146,99 +83,93 @@ fn tie_slot(
 ) -> Result<Tied, NoMemory>
     requires parent_bits { All (λ e. IsBit circuit.old e.here) parents.now }
     requires target_bits { All (λ e. IsBit circuit.old e.here) targets.now }
-    requires room { length circuit.old + ((4 * length parents.now + 1) + (4 * length targets.now + 1)) ≤ MOST_WIRES }
-    ensures parents { IfOk result (λ tied. (all : Items AnEdge) (slot : ℕ) → parents.now ≡ turned_from all slot → IsTiedBy circuit.new all slot tied.parents.items) }
-    ensures targets { IfOk result (λ tied. (all : Items AnEdge) (slot : ℕ) → targets.now ≡ turned_from all slot → IsTiedBy circuit.new all slot tied.targets.items) }
-    ensures extends { Extends circuit.old circuit.new ((4 * length parents.now + 1) + (4 * length targets.now + 1)) }
+    requires room { length circuit.old + (length parents.now + length targets.now) ≤ MOST_WIRES }
+    ensures parents { IfOk result (λ tied. IsMadeOf circuit.new parents.now tied.parents.items) }
+    ensures targets { IfOk result (λ tied. IsMadeOf circuit.new targets.now tied.targets.items) }
+    ensures extends { Extends circuit.old circuit.new (length parents.now + length targets.now) }
 {
-    let up = tie(alloc, circuit, parents)?;
-    let onto = tie(alloc, circuit, targets)?;
+    let up = ends_of(alloc, circuit, parents)?;
+    let onto = ends_of(alloc, circuit, targets)?;
     Ok(Tied {
         parents: up,
         targets: onto,
     })
 }
 
-// True where `all` is and no earlier slot of a slot's clafer has its parent and its target.
+// True where `all` is and none of the first of some slots has one of the parents and one of the targets.
+fn and_no_twin(
+    alloc: Global,
+    circuit: &mut Circuit,
+    ties: &Ties,
+    kin: &List<usize>,
+    place: usize,
+    parents: &List<Edge>,
+    targets: &List<Edge>,
+    all: Wire,
+) -> Result<Wire, NoMemory>
+    requires ties { AreTies circuit.old kin.now ties.now.parents.items ties.now.targets.items }
+    requires place_in { place ≤ length kin.now }
+    requires parent_bits { All (λ e. IsBit circuit.old e.here) parents.now }
+    requires target_bits { All (λ e. IsBit circuit.old e.here) targets.now }
+    requires all_in { IsWireOf circuit.old all }
+    requires room { length circuit.old + (length parents.now + length targets.now + sum_by (twin_cost ties.now.parents.items ties.now.targets.items) (take place kin.now)) ≤ MOST_WIRES }
+    ensures alone { IfOk result (HasNoTwinSoFar ties.now.parents.items ties.now.targets.items circuit.old kin.now parents.now targets.now all place circuit.new) }
+    ensures extends { Extends circuit.old circuit.new (length parents.now + length targets.now + sum_by (twin_cost ties.now.parents.items ties.now.targets.items) (take place kin.now)) }
+{
+    let later = tie_slot(alloc, circuit, parents, targets)?;
+    let mut right = all;
+    for at in 0..place {
+        let earlier = *kin.get(at);
+        let ups = &ties.parents[earlier];
+        let ontos = &ties.targets[earlier];
+        right = and_apart(circuit, &later, ups, ontos, right)?;
+    }
+    Ok(right)
+}
+
+// True where `all` is and no earlier one of some slots has the parent and the target of the one at a place.
 fn and_alone(
     alloc: Global,
     circuit: &mut Circuit,
-    layout: &Layout,
     ties: &Ties,
-    parents: &List<Edge>,
-    targets: &List<Edge>,
-    slot: usize,
+    kin: &List<usize>,
+    place: usize,
     all: Wire,
 ) -> Result<Wire, NoMemory>
-    requires slot_in { slot < length layout.now.slots }
-    requires parents_are { parents.now ≡ turned_from layout.now.parents slot }
-    requires targets_are { targets.now ≡ turned_from layout.now.targets slot }
-    requires parents { HoldsEdges layout.now.parents (length layout.now.slots) ties.now.parents.items }
-    requires targets { HoldsEdges layout.now.targets (length layout.now.slots) ties.now.targets.items }
-    requires parent_bits { All (λ e. IsBit circuit.old e.here) layout.now.parents }
-    requires target_bits { All (λ e. IsBit circuit.old e.here) layout.now.targets }
+    requires ties { AreTies circuit.old kin.now ties.now.parents.items ties.now.targets.items }
+    requires place_in { place < length kin.now }
     requires all_in { IsWireOf circuit.old all }
-    requires room { length circuit.old + (((4 * length parents.now + 1) + (4 * length targets.now + 1)) + (pairs_cost layout.now slot slot + 1) + 1) ≤ MOST_WIRES }
+    requires room { length circuit.old + place_cost ties.now.parents.items ties.now.targets.items kin.now place ≤ MOST_WIRES }
     ensures wire { IfOk result (IsWireOf circuit.new) }
-    ensures value { IfOk result (λ w. (bits : Items Bool) → wire_value circuit.new w bits ≡ (wire_value circuit.old all bits && list_all (λ j. not (are_twins layout.now bits j slot)) (numbers_below slot))) }
-    ensures extends { Extends circuit.old circuit.new (((4 * length parents.now + 1) + (4 * length targets.now + 1)) + (pairs_cost layout.now slot slot + 1) + 1) }
+    ensures value { IfOk result (λ w. (bits : Items Bool) → wire_value circuit.new w bits ≡ (wire_value circuit.old all bits && list_all (λ j. not (are_twins ties.now.parents.items ties.now.targets.items bits j (slice_index_or kin.now place 0))) (take place kin.now))) }
+    ensures extends { Extends circuit.old circuit.new (place_cost ties.now.parents.items ties.now.targets.items kin.now place) }
 {
-    let later = tie_slot(alloc, circuit, parents, targets)?;
-    let alone = has_no_twin(circuit, layout, ties, &later, slot)?;
-    let right = circuit.and(all, alone)?;
-    Ok(right)
-}
-
-// True where `all` is and a slot has another target than the earlier ones of its clafer, if this is nested and has to.
-fn and_slot(
-    alloc: Global,
-    circuit: &mut Circuit,
-    clafers: &List<Clafer>,
-    layout: &Layout,
-    ties: &Ties,
-    slot: usize,
-    all: Wire,
-) -> Result<Wire, NoMemory>
-    requires slot_in { slot < length layout.now.slots }
-    requires parents { HoldsEdges layout.now.parents (length layout.now.slots) ties.now.parents.items }
-    requires targets { HoldsEdges layout.now.targets (length layout.now.slots) ties.now.targets.items }
-    requires parent_bits { All (λ e. IsBit circuit.old e.here) layout.now.parents }
-    requires target_bits { All (λ e. IsBit circuit.old e.here) layout.now.targets }
-    requires all_in { IsWireOf circuit.old all }
-    requires room { length circuit.old + slot_cost clafers.now layout.now slot ≤ MOST_WIRES }
-    ensures wire { IfOk result (IsWireOf circuit.new) }
-    ensures value { IfOk result (λ w. (bits : Items Bool) → wire_value circuit.new w bits ≡ (wire_value circuit.old all bits && list_all (λ j. nested_differ clafers.now layout.now bits j slot) (numbers_below slot))) }
-    ensures extends { Extends circuit.old circuit.new (slot_cost clafers.now layout.now slot) }
-{
-    let clafer = layout.slots.get(slot).clafer;
-    if !is_paired(clafers, clafer) {
-        return Ok(all);
-    }
+    let slot = *kin.get(place);
     let parents = &ties.parents[slot];
     let targets = &ties.targets[slot];
-    let right = and_alone(alloc, circuit, layout, ties, parents, targets, slot, all)?;
+    let right = and_no_twin(
+        alloc, circuit, ties, kin, place, parents, targets, all,
+    )?;
     Ok(right)
 }
 
-// Whether no two slots of one nested clafer have one parent and one target where the reference is of set kind.
-pub(crate) fn nested_differ(
+/// True where `all` is and no two of some slots have one parent and one target: they are compared two by two.
+pub(crate) fn and_no_twins(
     alloc: Global,
     circuit: &mut Circuit,
-    clafers: &List<Clafer>,
-    layout: &Layout,
     ties: &Ties,
+    kin: &List<usize>,
+    all: Wire,
 ) -> Result<Wire, NoMemory>
-    requires parents { HoldsEdges layout.now.parents (length layout.now.slots) ties.now.parents.items }
-    requires targets { HoldsEdges layout.now.targets (length layout.now.slots) ties.now.targets.items }
-    requires parent_bits { All (λ e. IsBit circuit.old e.here) layout.now.parents }
-    requires target_bits { All (λ e. IsBit circuit.old e.here) layout.now.targets }
-    requires room { length circuit.old + targets_cost clafers.now layout.now ≤ MOST_WIRES }
-    ensures differ { IfOk result (DifferSoFar circuit.old clafers.now layout.now (length layout.now.slots) (targets_cost clafers.now layout.now) circuit.new) }
-    ensures extends { Extends circuit.old circuit.new (targets_cost clafers.now layout.now) }
+    requires ties { AreTies circuit.old kin.now ties.now.parents.items ties.now.targets.items }
+    requires all_in { IsWireOf circuit.old all }
+    requires room { length circuit.old + twins_cost ties.now.parents.items ties.now.targets.items kin.now (length kin.now) ≤ MOST_WIRES }
+    ensures alone { IfOk result (AreAloneSoFar ties.now.parents.items ties.now.targets.items circuit.old kin.now all (length kin.now) (twins_cost ties.now.parents.items ties.now.targets.items kin.now (length kin.now)) circuit.new) }
+    ensures extends { Extends circuit.old circuit.new (twins_cost ties.now.parents.items ties.now.targets.items kin.now (length kin.now)) }
 {
-    let mut all = circuit.constant(true)?;
-    for slot in 0..layout.slots.len() {
-        all = and_slot(alloc, circuit, clafers, layout, ties, slot, all)?;
+    let mut right = all;
+    for place in 0..kin.len() {
+        right = and_alone(alloc, circuit, ties, kin, place, right)?;
     }
-    Ok(all)
+    Ok(right)
 }

@@ -1,8 +1,8 @@
-use Rattle.std.proofs.Common.{◌≡◌, ◌+◌, ◌*◌, ◌&&◌, length, ap, ◌∙◌, arith}
+use Rattle.std.proofs.Common.{◌≡◌, ◌+◌, ◌*◌, ◌&&◌, ◌≤◌, length, ap, ◌∙◌, arith}
 use Rattle.bool_circuit.specs.Circuit.{wire_value}
 use Rattle.shape_encoder.specs.Comparing.{clafer_from, turned_by, single_cost}
 use Rattle.shape_encoder.proofs.Compared.{bits_by, costs_same}
-use Rattle.shape_encoder.proofs.Meeting.{uncounted_value, counted_value, single_cost_is, counted_is}
+use Rattle.shape_encoder.proofs.Meeting.{uncounted_value, edgeless_value, counted_value, single_cost_is, some_edges, counted_is}
 use Rattle.shape_encoder.proofs.targets.and_clafer.Goals as goal
 
 pub returns-then-not-is_counted-clause-value : goal.returns-then-not-is_counted-clause-value
@@ -10,21 +10,6 @@ returns-then-not-is_counted-clause-value c = λ bits. uncounted_value c.args.cla
 
 pub and_single-requires-clause-bits : goal.and_single-requires-clause-bits
 and_single-requires-clause-bits c = bits_by (clafer_from c.args.layout.now) c.args.circuit.now c.args.layout.now.targets c.args.edges.now c.args.clafer c.requires.edges_are c.requires.target_bits
-
-pub and_single-requires-clause-room : goal.and_single-requires-clause-room
-and_single-requires-clause-room c =
-    let cost = single_cost_is c.args.clafers.now c.args.layout.now c.args.clafer c.args.edges.now (counted_is c.args.clafers.now c.args.clafer c.is_counted.result c.is_counted.ensures c.if-not-is_counted.false) c.requires.edges_are in
-    omega (arith, c.requires.room, cost)
-
-pub returns-in_err-right-clause-extends : goal.returns-in_err-right-clause-extends
-returns-in_err-right-clause-extends c =
-    costs_same c.args.circuit.now c.and_single.new.circuit (4 * length c.args.edges.now + 2) (single_cost c.args.clafers.now c.args.layout.now c.args.clafer)
-    (single_cost_is c.args.clafers.now c.args.layout.now c.args.clafer c.args.edges.now (counted_is c.args.clafers.now c.args.clafer c.is_counted.result c.is_counted.ensures c.if-not-is_counted.false) c.requires.edges_are) c.in_err-right.ensures.extends
-
-pub returns-clause-extends : goal.returns-clause-extends
-returns-clause-extends c =
-    costs_same c.args.circuit.now c.and_single.new.circuit (4 * length c.args.edges.now + 2) (single_cost c.args.clafers.now c.args.layout.now c.args.clafer)
-    (single_cost_is c.args.clafers.now c.args.layout.now c.args.clafer c.args.edges.now (counted_is c.args.clafers.now c.args.clafer c.is_counted.result c.is_counted.ensures c.if-not-is_counted.false) c.requires.edges_are) c.in_ok-right.ensures.extends
 
 pub returns-clause-value : goal.returns-clause-value
 returns-clause-value c = λ bits.

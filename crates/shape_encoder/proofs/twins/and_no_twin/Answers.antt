@@ -1,57 +1,43 @@
-use Rattle.std.proofs.Common.{◌≡◌, ◌+◌, ◌*◌, ◌<◌, ◌&&◌, length, ap, ◌∙◌, sym, arith}
-use Rattle.std.specs.Prelude.{is_some}
-use Rattle.bool_circuit.specs.Circuit.{wire_value}
-use Rattle.clf_tree.specs.Hierarchy.{parent_of}
-use Rattle.set_bits.specs.Fitting.{slot_clafer}
-use Rattle.shape_encoder.specs.Comparing.{pair_cost}
-use Rattle.shape_encoder.proofs.Compared.{list_is, list_bits, clafer_at, clafers_same, pair_cost_is, twin_value, costs_same}
+use Rattle.std.proofs.Common.{◌≡◌, ◌+◌, ◌*◌, ◌<◌, ◌≤◌, length, take, arith}
+use Rattle.std.specs.List.{sum_by}
+use Rattle.shape_encoder.specs.Comparing.{twin_cost}
+use Rattle.shape_encoder.proofs.Compared.{costs_within}
+use Rattle.shape_encoder.proofs.Paired.{ties_stay, list_here, here_bits, kin_place, none_before, twins_more, twin_within}
 use Rattle.shape_encoder.proofs.twins.and_no_twin.Goals as goal
 
 pub and_apart-requires-clause-parent_bits : goal.and_apart-requires-clause-parent_bits
 and_apart-requires-clause-parent_bits c =
-    let inside : c.args.earlier < length c.args.layout.now.slots = omega (arith, c.requires.earlier_in, c.requires.slot_in) in
-    list_bits c.args.circuit.now c.args.layout.now.parents c.index-parents.result.now c.args.earlier (list_is c.args.layout.now.parents (length c.args.layout.now.slots) c.args.earlier c.args.ties.now.parents.items c.index-parents.result.now c.requires.parents inside c.index-parents.ensures) c.requires.parent_bits
+    here_bits c.loop-at.circuit c.args.ties.now.parents.items c.get-earlier.result.now c.index-ups.result.now (kin_place (length c.args.ties.now.parents.items) c.args.kin.now c.loop-at.at c.get-earlier.result.now c.requires.ties.parents_known c.get-earlier.ensures) c.index-ups.ensures
+    (ties_stay c.args.circuit.now c.loop-at.circuit (length c.args.parents.now + length c.args.targets.now + sum_by (twin_cost c.args.ties.now.parents.items c.args.ties.now.targets.items) (take c.loop-at.at c.args.kin.now)) c.args.kin.now c.args.ties.now.parents.items c.args.ties.now.targets.items c.loop-at.invariant.alone.extends c.requires.ties).parent_bits
 
 pub and_apart-requires-clause-target_bits : goal.and_apart-requires-clause-target_bits
 and_apart-requires-clause-target_bits c =
-    let inside : c.args.earlier < length c.args.layout.now.slots = omega (arith, c.requires.earlier_in, c.requires.slot_in) in
-    list_bits c.args.circuit.now c.args.layout.now.targets c.index-targets.result.now c.args.earlier (list_is c.args.layout.now.targets (length c.args.layout.now.slots) c.args.earlier c.args.ties.now.targets.items c.index-targets.result.now c.requires.targets inside c.index-targets.ensures) c.requires.target_bits
+    here_bits c.loop-at.circuit c.args.ties.now.targets.items c.get-earlier.result.now c.index-ontos.result.now (kin_place (length c.args.ties.now.targets.items) c.args.kin.now c.loop-at.at c.get-earlier.result.now c.requires.ties.targets_known c.get-earlier.ensures) c.index-ontos.ensures
+    (ties_stay c.args.circuit.now c.loop-at.circuit (length c.args.parents.now + length c.args.targets.now + sum_by (twin_cost c.args.ties.now.parents.items c.args.ties.now.targets.items) (take c.loop-at.at c.args.kin.now)) c.args.kin.now c.args.ties.now.parents.items c.args.ties.now.targets.items c.loop-at.invariant.alone.extends c.requires.ties).target_bits
 
 pub and_apart-requires-clause-room : goal.and_apart-requires-clause-room
 and_apart-requires-clause-room c =
-    let inside : c.args.earlier < length c.args.layout.now.slots = omega (arith, c.requires.earlier_in, c.requires.slot_in) in
-    let same : c.get.result.now.clafer ≡ c.get-2.result.now.clafer = omega (arith, c.if-get.false) in
-    let cost = pair_cost_is c.args.layout.now c.args.earlier c.args.slot c.index-parents.result.now c.index-targets.result.now (clafers_same c.args.layout.now c.args.earlier c.args.slot c.get.result.now c.get-2.result.now c.get.ensures c.get-2.ensures same)
-    (list_is c.args.layout.now.parents (length c.args.layout.now.slots) c.args.earlier c.args.ties.now.parents.items c.index-parents.result.now c.requires.parents inside c.index-parents.ensures)
-    (list_is c.args.layout.now.targets (length c.args.layout.now.slots) c.args.earlier c.args.ties.now.targets.items c.index-targets.result.now c.requires.targets inside c.index-targets.ensures) in
-    omega (arith, c.requires.room, cost)
+    let fits = twin_within c.args.ties.now.parents.items c.args.ties.now.targets.items c.args.kin.now c.loop-at.at c.args.place c.get-earlier.result.now c.index-ups.result.now c.index-ontos.result.now c.get-earlier.ensures c.loop-at-test.true
+    (list_here c.args.ties.now.parents.items c.get-earlier.result.now c.index-ups.result.now (kin_place (length c.args.ties.now.parents.items) c.args.kin.now c.loop-at.at c.get-earlier.result.now c.requires.ties.parents_known c.get-earlier.ensures) c.index-ups.ensures)
+    (list_here c.args.ties.now.targets.items c.get-earlier.result.now c.index-ontos.result.now (kin_place (length c.args.ties.now.targets.items) c.args.kin.now c.loop-at.at c.get-earlier.result.now c.requires.ties.targets_known c.get-earlier.ensures) c.index-ontos.ensures) in
+    omega (arith, c.requires.room, c.loop-at.invariant.alone.extends.at_most, fits)
 
 pub returns-in_err-right-clause-extends : goal.returns-in_err-right-clause-extends
 returns-in_err-right-clause-extends c =
-    let inside : c.args.earlier < length c.args.layout.now.slots = omega (arith, c.requires.earlier_in, c.requires.slot_in) in
-    let same : c.get.result.now.clafer ≡ c.get-2.result.now.clafer = omega (arith, c.if-get.false) in
-    costs_same c.args.circuit.now c.and_apart.new.circuit (2 * length c.index-parents.result.now + 2 * length c.index-targets.result.now + 5) (pair_cost c.args.layout.now c.args.earlier c.args.slot)
-    (pair_cost_is c.args.layout.now c.args.earlier c.args.slot c.index-parents.result.now c.index-targets.result.now (clafers_same c.args.layout.now c.args.earlier c.args.slot c.get.result.now c.get-2.result.now c.get.ensures c.get-2.ensures same)
-    (list_is c.args.layout.now.parents (length c.args.layout.now.slots) c.args.earlier c.args.ties.now.parents.items c.index-parents.result.now c.requires.parents inside c.index-parents.ensures)
-    (list_is c.args.layout.now.targets (length c.args.layout.now.slots) c.args.earlier c.args.ties.now.targets.items c.index-targets.result.now c.requires.targets inside c.index-targets.ensures)) c.in_err-right.ensures.extends
+    let fits = twin_within c.args.ties.now.parents.items c.args.ties.now.targets.items c.args.kin.now c.loop-at.at c.args.place c.get-earlier.result.now c.index-ups.result.now c.index-ontos.result.now c.get-earlier.ensures c.loop-at-test.true
+    (list_here c.args.ties.now.parents.items c.get-earlier.result.now c.index-ups.result.now (kin_place (length c.args.ties.now.parents.items) c.args.kin.now c.loop-at.at c.get-earlier.result.now c.requires.ties.parents_known c.get-earlier.ensures) c.index-ups.ensures)
+    (list_here c.args.ties.now.targets.items c.get-earlier.result.now c.index-ontos.result.now (kin_place (length c.args.ties.now.targets.items) c.args.kin.now c.loop-at.at c.get-earlier.result.now c.requires.ties.targets_known c.get-earlier.ensures) c.index-ontos.ensures) in
+    costs_within c.args.circuit.now c.loop-at.circuit c.and_apart.new.circuit (length c.args.parents.now + length c.args.targets.now + sum_by (twin_cost c.args.ties.now.parents.items c.args.ties.now.targets.items) (take c.loop-at.at c.args.kin.now)) (2 * length c.index-ups.result.now + 2 * length c.index-ontos.result.now + 5) (length c.args.parents.now + length c.args.targets.now + sum_by (twin_cost c.args.ties.now.parents.items c.args.ties.now.targets.items) (take c.args.place c.args.kin.now)) (omega (arith, fits)) c.loop-at.invariant.alone.extends c.in_err-right.ensures.extends
 
-pub returns-clause-extends : goal.returns-clause-extends
-returns-clause-extends c =
-    let inside : c.args.earlier < length c.args.layout.now.slots = omega (arith, c.requires.earlier_in, c.requires.slot_in) in
-    let same : c.get.result.now.clafer ≡ c.get-2.result.now.clafer = omega (arith, c.if-get.false) in
-    costs_same c.args.circuit.now c.and_apart.new.circuit (2 * length c.index-parents.result.now + 2 * length c.index-targets.result.now + 5) (pair_cost c.args.layout.now c.args.earlier c.args.slot)
-    (pair_cost_is c.args.layout.now c.args.earlier c.args.slot c.index-parents.result.now c.index-targets.result.now (clafers_same c.args.layout.now c.args.earlier c.args.slot c.get.result.now c.get-2.result.now c.get.ensures c.get-2.ensures same)
-    (list_is c.args.layout.now.parents (length c.args.layout.now.slots) c.args.earlier c.args.ties.now.parents.items c.index-parents.result.now c.requires.parents inside c.index-parents.ensures)
-    (list_is c.args.layout.now.targets (length c.args.layout.now.slots) c.args.earlier c.args.ties.now.targets.items c.index-targets.result.now c.requires.targets inside c.index-targets.ensures)) c.in_ok-right.ensures.extends
+pub loop-at-init : goal.loop-at-init
+loop-at-init c =
+    none_before c.args.ties.now.parents.items c.args.ties.now.targets.items c.args.circuit.now c.tie_slot.new.circuit c.args.kin.now c.args.parents.now c.args.targets.now c.in_ok-later.later.parents.items c.in_ok-later.later.targets.items c.args.all
+    c.in_ok-later.ensures.extends c.in_ok-later.ensures.parents c.in_ok-later.ensures.targets c.requires.all_in
 
-pub returns-clause-value : goal.returns-clause-value
-returns-clause-value c =
-    let inside : c.args.earlier < length c.args.layout.now.slots = omega (arith, c.requires.earlier_in, c.requires.slot_in) in
-    let same : c.get.result.now.clafer ≡ c.get-2.result.now.clafer = omega (arith, c.if-get.false) in
-    λ bits. c.in_ok-right.ensures.value bits
-    ∙ ap (λ b. wire_value c.args.circuit.now c.args.all bits && b)
-    (twin_value c.args.circuit.now c.args.layout.now c.args.earlier c.args.slot c.args.later.now.parents.items c.args.later.now.targets.items c.index-parents.result.now c.index-targets.result.now
-    (clafers_same c.args.layout.now c.args.earlier c.args.slot c.get.result.now c.get-2.result.now c.get.ensures c.get-2.ensures same)
-    (list_is c.args.layout.now.parents (length c.args.layout.now.slots) c.args.earlier c.args.ties.now.parents.items c.index-parents.result.now c.requires.parents inside c.index-parents.ensures)
-    (list_is c.args.layout.now.targets (length c.args.layout.now.slots) c.args.earlier c.args.ties.now.targets.items c.index-targets.result.now c.requires.targets inside c.index-targets.ensures)
-    c.requires.parents_by c.requires.targets_by bits)
+pub loop-at-preserved : goal.loop-at-preserved
+loop-at-preserved c =
+    twins_more c.args.ties.now.parents.items c.args.ties.now.targets.items c.args.circuit.now c.loop-at.circuit c.and_apart.new.circuit c.args.kin.now c.args.parents.now c.args.targets.now c.args.all c.loop-at.at c.get-earlier.result.now c.in_ok-later.later.parents.items c.in_ok-later.later.targets.items c.index-ups.result.now c.index-ontos.result.now c.loop-at.right c.in_ok-right.right
+    c.get-earlier.ensures
+    (list_here c.args.ties.now.parents.items c.get-earlier.result.now c.index-ups.result.now (kin_place (length c.args.ties.now.parents.items) c.args.kin.now c.loop-at.at c.get-earlier.result.now c.requires.ties.parents_known c.get-earlier.ensures) c.index-ups.ensures)
+    (list_here c.args.ties.now.targets.items c.get-earlier.result.now c.index-ontos.result.now (kin_place (length c.args.ties.now.targets.items) c.args.kin.now c.loop-at.at c.get-earlier.result.now c.requires.ties.targets_known c.get-earlier.ensures) c.index-ontos.ensures)
+    c.loop-at.invariant c.in_ok-right.ensures.extends c.in_ok-right.ensures.wire c.in_ok-right.ensures.value
