@@ -1,8 +1,10 @@
 pub mod Below
 pub mod BoundParts
 pub mod LinearParts
+pub mod Parts
 pub mod Reading
 pub mod Roomed
+pub mod SetParts
 pub mod Slots
 pub mod Slotted
 pub mod Tied
