@@ -1,5 +1,14 @@
 pub mod Below
+pub mod BoundParts
+pub mod LinearParts
+pub mod Parts
 pub mod Reading
+pub mod Roomed
+pub mod SetParts
 pub mod Slots
+pub mod Slotted
+pub mod Tied
+pub mod Totals
 pub mod Valuing
+pub mod Widened
 pub mod Wiring

@@ -10,7 +10,7 @@ ghost use Rattle.shown_instance.specs.Consistent.{abstract_are_empty};
 ghost use Rattle.shown_instance.specs.Shaped.{is_shaped, ShowsShaped};
 ghost use Rattle.shape_encoder.specs.Comparing.{IsOrdered};
 ghost use Rattle.shape_encoder.specs.Reading.{IsLaid};
-ghost use Rattle.instance_encoder.specs.Shaping.{shape_cost};
+ghost use Rattle.instance_encoder.specs.Shaping.{rules_cost, shape_cost};
 
 use bool_circuit::{Circuit, MOST_WIRES, Wire};
 use clf_base::NoMemory;
@@ -23,8 +23,8 @@ use shape_encoder::{
 use shown_instance::shaped_bits_show_a_tree;
 use std::alloc::Global;
 
-// Whether all rules are met.
-fn meets_rules(
+// Whether each of the five rules is met.
+fn meets_each_rule(
     alloc: Global,
     circuit: &mut Circuit,
     core: &CoreModel,
@@ -39,10 +39,10 @@ fn meets_rules(
     requires owners { All (λ e. e.to < length layout.now.slots) layout.now.parents }
     requires parents { All (λ e. e.to < length layout.now.live) layout.now.parents }
     requires targets { All (λ e. e.to < length layout.now.live) layout.now.targets }
-    requires room { length circuit.old + shape_cost core.now.clafers scopes.now layout.now ≤ MOST_WIRES }
+    requires room { length circuit.old + rules_cost core.now.clafers scopes.now layout.now ≤ MOST_WIRES }
     ensures wire { IfOk result (IsWireOf circuit.new) }
     ensures value { IfOk result (λ w. (bits : Items Bool) → wire_value circuit.new w bits ≡ is_shaped core.now.clafers scopes.now layout.now bits) }
-    ensures extends { Extends circuit.old circuit.new (shape_cost core.now.clafers scopes.now layout.now) }
+    ensures extends { Extends circuit.old circuit.new (rules_cost core.now.clafers scopes.now layout.now) }
 {
     let shown = consistent(alloc, circuit, scopes, layout)?;
     let placed = have_parents(alloc, circuit, core, layout)?;
@@ -56,12 +56,45 @@ fn meets_rules(
     Ok(right)
 }
 
+// Whether all rules are met. Where there are no slots, there are no edges and no integers either, so the bounds alone are asked.
+fn meets_rules(
+    alloc: Global,
+    circuit: &mut Circuit,
+    core: &CoreModel,
+    scopes: &Scopes,
+    layout: &Layout,
+) -> Result<Wire, NoMemory>
+    requires closed { IsTrue (is_closed core.now.clafers) }
+    requires few_clafers { length core.now.clafers < 2 ^ 32 }
+    requires fits { Fits core.now.clafers scopes.now layout.now }
+    requires laid { IsLaid circuit.old layout.now }
+    requires ordered { IsOrdered core.now.clafers layout.now }
+    requires children { All (λ e. e.from < length layout.now.slots) layout.now.parents }
+    requires owners { All (λ e. e.to < length layout.now.slots) layout.now.parents }
+    requires parents { All (λ e. e.to < length layout.now.live) layout.now.parents }
+    requires targets { All (λ e. e.to < length layout.now.live) layout.now.targets }
+    requires room { length circuit.old + shape_cost core.now.clafers scopes.now layout.now ≤ MOST_WIRES }
+    ensures wire { IfOk result (IsWireOf circuit.new) }
+    ensures value { IfOk result (λ w. (bits : Items Bool) → wire_value circuit.new w bits ≡ is_shaped core.now.clafers scopes.now layout.now bits) }
+    ensures extends { Extends circuit.old circuit.new (shape_cost core.now.clafers scopes.now layout.now) }
+{
+    if layout.slots.is_empty() {
+        let bounded = have_bounds(alloc, circuit, core, layout)?;
+        return Ok(bounded);
+    }
+    let right = meets_each_rule(alloc, circuit, core, scopes, layout)?;
+    Ok(right)
+}
+
 /// A wire that is true exactly where the bits of a layout show an instance that is a tree of the right shape.
 ///
 /// It is the conjunction of five rules, each a wire that is exact at all bits: the bits show some instance, nodes have their parents and
-/// their targets, they are as many as multiplicities and groups allow, and set references tell them apart. The model may have no clafer
-/// that contains itself, and abstract clafers have the scope 0. The time grows with the number of wires, with the clafers times the
-/// slots, and with the clafers times the clafers.
+/// their targets, they are as many as multiplicities and groups allow, and set references tell them apart. A layout without slots is asked
+/// for the numbers alone. The model may have no clafer that contains itself, and abstract clafers have the scope 0.
+///
+/// The layout and its shape take no more wires than the weight of the model has for its clafers, and seven more, so they fit into a circuit
+/// where the model weighs 8,000,000 at most: `shapes_are_within_the_weight` is the law. Most models take far fewer. The time grows with the
+/// number of wires, with the clafers times the slots, and with the clafers times the clafers.
 pub fn shape(
     alloc: Global,
     circuit: &mut Circuit,
