@@ -1,4 +1,4 @@
--- What multiplicities and groups count, and how far the rules for them have come.
+-- What multiplicities and groups count, and how many wires the rules for them add.
 use Rattle.std.specs.Prelude.{◌≡◌, ◌==◌, ◌+◌, ◌*◌, ◌<◌, ℕ, Bool, false, ◌&&◌, List, length, map, min, get_or, slice_get, slice_index_or, nat_lt, Option, Some, None, [], if◌then◌else◌, count_by}
 use Rattle.std.specs.Option.{option_map_or, option_and_then}
 use Rattle.std.specs.List.{All, filter, sum_by}
