@@ -1,8 +1,8 @@
 -- The parts of multiplicities and groups.
-use Rattle.std.proofs.Common.{◌≡◌, ℕ, ◌+◌, ◌*◌, ◌<◌, ◌≤◌, Bool, true, false, cond, not, ◌||◌, List, [], ◌∷◌, length, min, max, Option, Some, None, refl, sym, ap, ◌∙◌, subst, arith}
+use Rattle.std.proofs.Common.{◌≡◌, ℕ, ◌+◌, ◌*◌, ◌<◌, ◌≤◌, Bool, true, false, cond, not, ◌||◌, List, [], ◌∷◌, length, min, max, Option, Some, None, refl, ap, ◌∙◌, arith}
 use Rattle.std.specs.Prelude.{slice_get, is_some, IsTrue, if◌then◌else◌}
 use Rattle.std.specs.Option.{option_map_or, option_and_then}
-use Rattle.std.specs.List.{sum_by, count_by}
+use Rattle.std.specs.List.{sum_by}
 use Rattle.std.proofs.Math.Nat.{mul-le-mul, mul-le-mul_left, mul-le-mul_right}
 use Rattle.clf_tree.specs.declared.model.Clafer.{Clafer}
 use Rattle.clf_tree.specs.declared.module.Interval.{Interval}
@@ -18,7 +18,7 @@ use Rattle.set_bits.specs.Fitting.{Fits, slot_clafer}
 use Rattle.shown_instance.specs.Bounds.{is_declared_under}
 use Rattle.shown_instance.specs.Consistent.{abstract_are_empty}
 use Rattle.shape_encoder.specs.Counting.{slot_cost, child_slots, each_cost, whole_cost, counted_slots, times_cost, group_cost, clafer_cost, bounds_room}
-use Rattle.instance_encoder.proofs.Totals.{sum-each, sum-times, below-less}
+use Rattle.instance_encoder.proofs.Totals.{sum-times, below-less}
 use Rattle.instance_encoder.proofs.Slotted.{room_of, slots_of}
 use Rattle.instance_encoder.proofs.Tied.{reach, children_few}
 use Rattle.instance_encoder.proofs.Roomed.{is_leaf, leaf_few, heirs_few, abstract_none, room_is}

@@ -1,7 +1,7 @@
 -- The parts of a layout and its shape that go by slots, edges and bits of integers: inputs, consistency, parents and targets.
-use Rattle.std.proofs.Common.{◌≡◌, ℕ, ◌+◌, ◌*◌, ◌<◌, ◌≤◌, Bool, true, false, cond, List, length, map, max, get_or, refl, sym, ap, ◌∙◌, subst, arith}
+use Rattle.std.proofs.Common.{◌≡◌, ℕ, ◌+◌, ◌*◌, ◌≤◌, cond, List, length, map, get_or, sym, ap, ◌∙◌, arith}
 use Rattle.std.specs.Prelude.{int_le, IsTrue}
-use Rattle.std.specs.List.{All, filter, flat_map, sum_by, count_by}
+use Rattle.std.specs.List.{All, sum_by}
 use Rattle.std.proofs.lemmas.List.{length-map}
 use Rattle.std.proofs.lemmas.List.Sums.{length-filter, sum_by-le}
 use Rattle.std.proofs.lemmas.List.FromFn.{length-range_with_len}
@@ -10,11 +10,10 @@ use Rattle.clf_tree.specs.declared.model.Clafer.{Clafer}
 use Rattle.clf_tree.specs.declared.scopes.Scopes.{Scopes}
 use Rattle.clf_tree.specs.Lists.{numbers_below}
 use Rattle.clf_tree.specs.Hierarchy.{parent_of, target_of, refers_to_int}
-use Rattle.set_bits.specs.declared.layout.Edge.{Edge}
 use Rattle.set_bits.specs.declared.layout.SlotBits.{SlotBits}
 use Rattle.set_bits.specs.declared.layout.Layout.{Layout}
 use Rattle.set_bits.specs.Fitting.{Fits, slot_clafer, value_width, value_wires, size}
-use Rattle.shape_encoder.specs.Reading.{own_width, edges_cost, integer_cost, integers_room, integers_cost, consistent_cost}
+use Rattle.shape_encoder.specs.Reading.{own_width, integer_cost, consistent_cost}
 use Rattle.shape_encoder.specs.Placing.{placed_cost}
 use Rattle.instance_encoder.proofs.Totals.{sum-each, sum-flat, sum-constant}
 use Rattle.instance_encoder.proofs.Slotted.{by_slots}

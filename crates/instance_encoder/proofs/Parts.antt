@@ -9,7 +9,6 @@ use Rattle.std.proofs.lemmas.Bool.Decides.{nat_tests}
 use Rattle.std.proofs.lemmas.List.Sums.{sum-map}
 use Rattle.clf_tree.specs.declared.model.Clafer.{Clafer}
 use Rattle.clf_tree.specs.declared.model.Model.{Model}
-use Rattle.clf_tree.specs.declared.module.Interval.{Interval}
 use Rattle.clf_tree.specs.declared.scopes.Scopes.{Scopes}
 use Rattle.clf_tree.specs.Lists.{numbers_below}
 use Rattle.clf_tree.specs.Hierarchy.{is_concrete, parent_of, target_of, refers_to_int}
@@ -17,20 +16,20 @@ use Rattle.clf_tree.specs.Named.{each, has_right_super}
 use Rattle.clf_tree.specs.CoreWeights.{range_width}
 use Rattle.clf_tree.specs.Nodes.{scope_of}
 use Rattle.clf_tree.specs.Shape.{is_set}
-use Rattle.int_widths.specs.Weight.{is_single, has_pairs, owner_room, target_slots, group_weight, counted_to, abstract_weight, concrete_weight, clafer_weight, weight_at, clafers_weight, rule_weight, goal_weight, model_weight}
+use Rattle.int_widths.specs.Weight.{has_pairs, owner_room, target_slots, group_weight, counted_to, abstract_weight, concrete_weight, clafer_weight, weight_at, clafers_weight, rule_weight, goal_weight, model_weight}
 use Rattle.set_bits.specs.declared.layout.Layout.{Layout}
 use Rattle.set_bits.specs.Fitting.{Fits, slot_clafer, value_width, size}
 use Rattle.shown_instance.specs.Consistent.{abstract_are_empty}
 use Rattle.shown_instance.specs.Distinct.{allows_two, tells_apart}
 use Rattle.shape_encoder.specs.Counting.{bounds_room, bounds_cost}
-use Rattle.shape_encoder.specs.Comparing.{is_paired, sets_cost, pairs_sets_cost, slots_cost, singles_cost, values_cost}
+use Rattle.shape_encoder.specs.Comparing.{sets_cost, pairs_sets_cost, slots_cost, singles_cost, values_cost}
 use Rattle.shape_encoder.specs.Reading.{consistent_cost}
 use Rattle.shape_encoder.specs.Placing.{placed_cost}
 use Rattle.instance_encoder.specs.Shaping.{rules_cost, shape_cost}
 use Rattle.instance_encoder.proofs.Totals.{sum-each, sum-add, sum-times, below-less}
-use Rattle.instance_encoder.proofs.Slotted.{by_slots, by_clafers, regrouped}
+use Rattle.instance_encoder.proofs.Slotted.{by_clafers, regrouped}
 use Rattle.instance_encoder.proofs.Tied.{reach}
-use Rattle.instance_encoder.proofs.Roomed.{abstract_none, integer_bits, targets_are}
+use Rattle.instance_encoder.proofs.Roomed.{abstract_none, targets_are}
 use Rattle.instance_encoder.proofs.Widened.{range_same, some_width}
 use Rattle.instance_encoder.proofs.LinearParts.{parent_edges, target_edges, integers, slots_are, inputs_few, consistent_few, placed_parents_few, placed_targets_few}
 use Rattle.instance_encoder.proofs.BoundParts.{times_share, bounds_few}

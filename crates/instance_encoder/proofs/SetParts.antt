@@ -1,8 +1,8 @@
 -- The parts of set references: at top level by edges, below parents and with integers by pairs.
-use Rattle.std.proofs.Common.{◌≡◌, ◌≢◌, ℕ, zero, suc, ◌+◌, ◌*◌, ◌<◌, ◌≤◌, Bool, true, false, cond, not, ◌&&◌, ◌||◌, List, [], ◌∷◌, length, map, take, max, get_or, Option, Some, None, refl, sym, ap, ◌∙◌, subst, arith, ◌⊎◌, inl, inr}
-use Rattle.std.specs.Prelude.{◌==◌, slice_get, is_none, is_some, nat_lt}
+use Rattle.std.proofs.Common.{◌≡◌, ◌≢◌, ℕ, zero, suc, ◌+◌, ◌*◌, ◌<◌, ◌≤◌, Bool, true, false, cond, List, [], length, take, max, get_or, refl, sym, ap, ◌∙◌, subst, arith, ◌⊎◌, inl, inr}
+use Rattle.std.specs.Prelude.{◌==◌}
 use Rattle.std.specs.Option.{option_map_or}
-use Rattle.std.specs.List.{All, filter, sum_by, count_by}
+use Rattle.std.specs.List.{sum_by, count_by}
 use Rattle.std.proofs.Math.Nat.{mul-le-mul_left}
 use Rattle.std.proofs.lemmas.Bool.Decides.{eqb_tells}
 use Rattle.std.proofs.lemmas.Option.{slice_get-get_or}
@@ -18,10 +18,10 @@ use Rattle.set_bits.specs.Fitting.{Fits, slot_clafer, value_width}
 use Rattle.shown_instance.specs.Distinct.{tells_apart}
 use Rattle.shape_encoder.specs.Comparing.{turned_by, turned_from, clafer_from, is_paired, is_counted, pair_cost, pairs_cost, slot_cost, slots_cost, single_cost, singles_cost, equal_cost, integer_pair_cost, integer_pairs_cost, own_value_cost, value_cost, values_cost}
 use Rattle.instance_encoder.proofs.Totals.{sum-each, sum-add, sum-times, sum-filtered, sum-mapped, sum-places, below-less, below-more, pairs_twice}
-use Rattle.instance_encoder.proofs.Slotted.{by_slots, by_clafers, regrouped, room_of, slots_of}
+use Rattle.instance_encoder.proofs.Slotted.{by_slots, by_clafers, regrouped, slots_of}
 use Rattle.instance_encoder.proofs.Tied.{reach, one_term, slot_edges_few, clafer_edges_few}
 use Rattle.instance_encoder.proofs.Roomed.{room_sum}
-use Rattle.instance_encoder.proofs.LinearParts.{parent_edges, target_edges, targets_few, integers, integers_are, slots_are}
+use Rattle.instance_encoder.proofs.LinearParts.{parent_edges, target_edges, targets_few, integers, slots_are}
 
 -- ---- top-level clafers
 

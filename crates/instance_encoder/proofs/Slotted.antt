@@ -1,18 +1,16 @@
 -- Sums over slots are sums over clafers.
-use Rattle.std.proofs.Common.{◌≡◌, ℕ, zero, suc, ◌+◌, ◌*◌, ◌<◌, ◌≤◌, Bool, true, false, cond, ◌&&◌, ◌||◌, List, [], ◌∷◌, length, map, sum, refl, sym, ap, ◌∙◌, arith}
+use Rattle.std.proofs.Common.{◌≡◌, ℕ, ◌*◌, ◌≤◌, Bool, true, false, cond, ◌||◌, List, [], ◌∷◌, length, map, sum, refl, sym, ap, ◌∙◌, arith}
 use Rattle.std.specs.Prelude.{◌==◌}
-use Rattle.std.specs.List.{filter, sum_by, count_by, range_with_len}
+use Rattle.std.specs.List.{filter, sum_by, count_by}
 use Rattle.std.proofs.lemmas.Bool.{true≢false}
-use Rattle.std.proofs.lemmas.Bool.Decides.{eqb_tells}
-use Rattle.std.proofs.lemmas.List.Sums.{sum_by-cons, sum-map}
+use Rattle.std.proofs.lemmas.List.Sums.{sum-map}
 use Rattle.std.proofs.lemmas.List.FromFn.{length-range_with_len}
 use Rattle.clf_tree.specs.declared.model.Clafer.{Clafer}
 use Rattle.clf_tree.specs.declared.instance.Node.{Node}
 use Rattle.clf_tree.specs.declared.scopes.Scopes.{Scopes}
 use Rattle.clf_tree.specs.Lists.{numbers_below, has}
 use Rattle.clf_tree.specs.Nodes.{scope_of}
-use Rattle.set_bits.specs.declared.layout.Layout.{Layout}
-use Rattle.set_bits.specs.Fitting.{Fits, nodes_below, nodes_within, slot_clafer}
+use Rattle.set_bits.specs.Fitting.{nodes_below, nodes_within, slot_clafer}
 use Rattle.instance_encoder.proofs.Totals.{sum-each, sum-mapped, sum-filtered, sum-flat, sum-constant, sum-places}
 
 -- what the slots have in all, where each has as much as its clafer says

@@ -1,20 +1,20 @@
 -- How many edges a layout that fits has.
-use Rattle.std.proofs.Common.{◌≡◌, ◌≢◌, ℕ, zero, suc, ◌+◌, ◌*◌, ◌<◌, ◌≤◌, Bool, true, false, cond, ◌&&◌, ◌||◌, List, [], ◌∷◌, length, map, sum, Option, Some, None, refl, sym, ap, ◌∙◌, subst, arith, ◌⊎◌, inl, inr}
+use Rattle.std.proofs.Common.{◌≡◌, ◌≢◌, ℕ, zero, suc, ◌+◌, ◌<◌, ◌≤◌, Bool, true, false, cond, ◌&&◌, List, [], ◌∷◌, length, map, sum, Option, Some, None, refl, sym, ap, ◌∙◌, arith, ◌⊎◌, inl, inr}
 use Rattle.std.specs.Prelude.{◌==◌}
 use Rattle.std.specs.Option.{option_map_or}
 use Rattle.std.specs.List.{filter, sum_by, count_by, range_with_len}
 use Rattle.std.proofs.lemmas.Bool.Decides.{eqb_tells}
 use Rattle.std.proofs.lemmas.List.{length-map}
-use Rattle.std.proofs.lemmas.List.Sums.{sum_by-cons, sum-map, length-filter, sum_by-le-sum_by}
+use Rattle.std.proofs.lemmas.List.Sums.{sum_by-cons, length-filter, sum_by-le-sum_by}
 use Rattle.clf_tree.specs.declared.model.Clafer.{Clafer}
 use Rattle.clf_tree.specs.declared.instance.Node.{Node}
 use Rattle.clf_tree.specs.declared.scopes.Scopes.{Scopes}
 use Rattle.clf_tree.specs.Lists.{numbers_below, has}
-use Rattle.clf_tree.specs.Hierarchy.{is_concrete, is_a, parent_of, target_of, owners, concrete_below}
+use Rattle.clf_tree.specs.Hierarchy.{is_concrete, is_a, owners, concrete_below}
 use Rattle.clf_tree.specs.Nodes.{scope_of}
 use Rattle.set_bits.specs.declared.layout.Edge.{Edge}
 use Rattle.set_bits.specs.declared.layout.Layout.{Layout}
-use Rattle.set_bits.specs.Fitting.{Fits, nodes_within, slot_clafer, ends, ends_from, all_ends, referred}
+use Rattle.set_bits.specs.Fitting.{Fits, nodes_within, slot_clafer, ends, ends_from, all_ends}
 use Rattle.shape_encoder.specs.Comparing.{turned, turned_by, turned_from, clafer_from}
 use Rattle.shape_encoder.specs.Counting.{child_slots}
 use Rattle.instance_encoder.proofs.Totals.{sum-each, sum-mapped, sum-filtered, sum-flat, sum-constant, sum-swap, below-less}
