@@ -1,17 +1,16 @@
 -- Slots of nested clafers, in the form that takes fewer wires.
-use Rattle.std.proofs.Common.{◌≡◌, ℕ, zero, suc, ◌+◌, ◌*◌, ◌-◌, ◌^◌, ◌<◌, ◌≤◌, Bool, true, false, cond, not, ◌&&◌, ◌||◌, List, [], ◌∷◌, ◌++◌, length, take, get_or, min, Option, Some, None, refl, sym, ap, ◌∙◌, subst, arith, ◌⊎◌, inl, inr}
+use Rattle.std.proofs.Common.{◌≡◌, ℕ, zero, suc, ◌+◌, ◌*◌, ◌-◌, ◌^◌, ◌<◌, ◌≤◌, Bool, true, false, cond, not, ◌&&◌, ◌||◌, List, [], ◌∷◌, length, take, get_or, min, Some, refl, sym, ap, ◌∙◌, subst, arith, ◌⊎◌, inl, inr}
 use Rattle.std.specs.Prelude.{slice_get, nat_lt, ◌==◌, is_some}
-use Rattle.std.specs.List.{All, filter, list_all, list_any, sum_by}
-use Rattle.std.proofs.Math.Nat.{min-eq_left, min-eq_right, min-le_left, min-le_right, mul-le-mul_left}
+use Rattle.std.specs.List.{All, list_all, sum_by}
+use Rattle.std.proofs.Math.Nat.{min-eq_left, min-eq_right, min-le_left, min-le_right}
 use Rattle.std.proofs.lemmas.Bool.{cases_lt}
 use Rattle.std.proofs.lemmas.Option.{slice_get-get_or}
 use Rattle.std.proofs.lemmas.Bool.Decides.{nat_tests}
-use Rattle.std.proofs.lemmas.List.{take_all, take_more}
+use Rattle.std.proofs.lemmas.List.{take_all}
 use Rattle.std.proofs.lemmas.List.Elements.{All-head, All-tail, All-take}
 use Rattle.bool_circuit.specs.declared.gate.Wire.{Wire}
 use Rattle.bool_circuit.specs.declared.gate.Gate.{Gate}
 use Rattle.bool_circuit.specs.Circuit.{wire_value, entry, IsWireOf, Extends}
-use Rattle.bool_circuit.proofs.Extending.{extends_trans, extends_within}
 use Rattle.clf_tree.specs.declared.model.Clafer.{Clafer}
 use Rattle.clf_tree.specs.Lists.{numbers_below, each_two}
 use Rattle.clf_tree.specs.Hierarchy.{parent_of}
@@ -20,12 +19,12 @@ use Rattle.set_bits.specs.declared.layout.Layout.{Layout}
 use Rattle.set_bits.specs.Fitting.{slot_clafer}
 use Rattle.shown_instance.specs.Consistent.{has_taken}
 use Rattle.shown_instance.specs.Distinct.{leads_there, lead_together}
-use Rattle.shown_instance.proofs.Order.{both, together}
+use Rattle.shown_instance.proofs.Order.{together}
 use Rattle.shown_instance.proofs.Placing.{same_truth, implied}
 use Rattle.shown_instance.proofs.Whole.{numbers_at, numbers_from}
 use Rattle.shown_instance.proofs.Differing.{each_from, each_at, implies}
 use Rattle.shape_encoder.specs.Reading.{IsBit}
-use Rattle.shape_encoder.specs.Comparing.{list_at, turned_from, HoldsEdges, IsOrdered, kin_below, kin_of, kin_differ, nested_differ, is_paired, meet, AreTies, are_twins, twin_cost, place_cost, twins_cost, counted_cost, siblings_cost, told, AreCostsSoFar, AreAloneSoFar, KinDifferSoFar, NestedDiffer, pairs_cost, compared_cost, sibling_cost, kin_cost, kins_cost}
+use Rattle.shape_encoder.specs.Comparing.{list_at, turned_from, HoldsEdges, IsOrdered, kin_of, kin_differ, nested_differ, is_paired, meet, AreTies, are_twins, twin_cost, place_cost, twins_cost, counted_cost, siblings_cost, told, AreCostsSoFar, KinDifferSoFar, NestedDiffer, pairs_cost, compared_cost, sibling_cost, kin_cost, kins_cost}
 use Rattle.shape_encoder.proofs.Steps.{and_true, kept_two, list_all-push, numbers-push, sum-push}
 use Rattle.shape_encoder.proofs.Compared.{any_same, turned_any, list_bits, same_is, same_number, or_true, others_differ, unpaired_differ, paired_differ, cost_step, sum_below-push}
 use Rattle.shape_encoder.proofs.Grouped.{kin_known, kin_clafers, kin_before, sum_on, pairs_within}

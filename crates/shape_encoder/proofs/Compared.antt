@@ -1,7 +1,7 @@
 -- Slots that are compared with each other, one after another.
-use Rattle.std.proofs.Common.{◌≡◌, ℕ, zero, suc, ◌+◌, ◌*◌, ◌<◌, ◌≤◌, Bool, true, false, cond, not, ◌&&◌, ◌||◌, List, [], ◌∷◌, length, map, take, get_or, Option, Some, None, refl, sym, ap, ◌∙◌, subst, arith, ◌⊎◌, inl, inr}
+use Rattle.std.proofs.Common.{◌≡◌, ℕ, zero, suc, ◌+◌, ◌<◌, ◌≤◌, Bool, true, false, cond, not, ◌&&◌, ◌||◌, List, [], ◌∷◌, length, map, take, get_or, Option, Some, None, refl, sym, ap, ◌∙◌, subst, arith, ◌⊎◌, inl, inr}
 use Rattle.std.specs.Prelude.{slice_get, nat_eq, ◌==◌, is_some, is_none, IfSome}
-use Rattle.std.specs.List.{All, filter, list_all, list_any, sum_by}
+use Rattle.std.specs.List.{All, filter, list_any, sum_by}
 use Rattle.std.proofs.lemmas.Bool.{true≢false, cases_eq}
 use Rattle.std.proofs.lemmas.Grind.{common_steps}
 use Rattle.std.proofs.lemmas.List.{take_all, get_or_read}
@@ -15,7 +15,7 @@ use Rattle.bool_circuit.specs.Circuit.{wire_value, entry, IsWireOf, Extends}
 use Rattle.bool_circuit.proofs.Extending.{extends_trans, extends_within}
 use Rattle.clf_tree.specs.declared.model.Clafer.{Clafer}
 use Rattle.clf_tree.specs.declared.instance.Node.{Node}
-use Rattle.clf_tree.specs.Lists.{numbers_below, each_two}
+use Rattle.clf_tree.specs.Lists.{numbers_below}
 use Rattle.clf_tree.specs.Hierarchy.{parent_of}
 use Rattle.set_bits.specs.declared.layout.Edge.{Edge}
 use Rattle.set_bits.specs.declared.layout.Layout.{Layout}
@@ -29,8 +29,7 @@ use Rattle.shown_instance.specs.Distinct.{leads_there, lead_together, tells_apar
 use Rattle.shape_encoder.specs.Reading.{IsBit}
 use Rattle.shape_encoder.specs.Taking.{AreTaken}
 use Rattle.shape_encoder.specs.Comparing.{turned, turned_by, turned_from, HoldsBy, HoldsEdges, joins, meet, is_paired, nested_differ, IsJoinedSoFar, IsMadeOf, IsMadeSoFar, IsTiedBy}
-use Rattle.shape_encoder.proofs.Steps.{and_true, list_all-push, numbers-push, all_same, all_item, take_item}
-use Rattle.shape_encoder.proofs.Taken.{each_two-push}
+use Rattle.shape_encoder.proofs.Steps.{numbers-push, all_item, take_item}
 
 pub any_same : {X : Type 0} (f g : X → Bool) (xs : List X) → ((x : X) → f x ≡ g x) → list_any f xs ≡ list_any g xs
 any_same f g [] h = refl

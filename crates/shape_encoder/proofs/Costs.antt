@@ -1,15 +1,13 @@
 -- Set references take no more wires than if the slots of each nested clafer were compared two by two.
-use Rattle.std.proofs.Common.{◌≡◌, ℕ, zero, suc, ◌+◌, ◌<◌, ◌≤◌, Bool, true, false, cond, List, [], ◌∷◌, length, get_or, min, refl, sym, ap, ◌∙◌, arith}
-use Rattle.std.specs.List.{All, sum_by}
+use Rattle.std.proofs.Common.{◌≡◌, ℕ, ◌≤◌, Bool, true, false, cond, List, [], ◌∷◌, length, get_or, min, refl, sym, ap, ◌∙◌, arith}
+use Rattle.std.specs.List.{sum_by}
 use Rattle.std.proofs.Math.Nat.{min-le_right}
 use Rattle.std.proofs.lemmas.List.Sums.{sum_by-cons}
-use Rattle.std.proofs.lemmas.List.Elements.{All-head, All-tail}
 use Rattle.clf_tree.specs.declared.model.Clafer.{Clafer}
 use Rattle.clf_tree.specs.Lists.{numbers_below}
 use Rattle.set_bits.specs.declared.layout.Layout.{Layout}
 use Rattle.set_bits.specs.Fitting.{slot_clafer}
-use Rattle.shape_encoder.specs.Comparing.{kin_of, is_paired, alone_cost, sibling_cost, compared_cost, slot_cost, slots_cost, kin_cost, kins_cost, sets_cost, pairs_sets_cost}
-use Rattle.shape_encoder.proofs.Compared.{sum_below-push}
+use Rattle.shape_encoder.specs.Comparing.{kin_of, is_paired, alone_cost, sibling_cost, compared_cost, slot_cost, kin_cost, sets_cost, pairs_sets_cost}
 use Rattle.shape_encoder.proofs.Grouped.{kin_clafers, sum_by_keys, sum_on}
 
 items_few : (f g : ℕ → ℕ) (xs : List ℕ) → ((x : ℕ) → f x ≤ g x) → sum_by f xs ≤ sum_by g xs

@@ -1,19 +1,18 @@
 -- The slots of each clafer, in order.
-use Rattle.std.proofs.Common.{◌≡◌, ℕ, zero, suc, ◌+◌, ◌*◌, ◌<◌, ◌≤◌, Bool, true, false, cond, ◌&&◌, ◌||◌, not, List, [], ◌∷◌, ◌++◌, length, map, replicate, take, get_or, set, Option, Some, None, refl, sym, ap, ◌∙◌, subst, arith, ◌⊎◌, inl, inr, append-nil}
-use Rattle.std.specs.Prelude.{slice_get, ◌==◌}
-use Rattle.std.specs.List.{All, filter, list_all, sum_by}
+use Rattle.std.proofs.Common.{◌≡◌, ℕ, zero, suc, ◌+◌, ◌*◌, ◌<◌, ◌≤◌, Bool, true, false, cond, List, [], ◌∷◌, ◌++◌, length, replicate, take, get_or, set, refl, sym, ap, ◌∙◌, subst, arith, inl, inr, append-nil}
+use Rattle.std.specs.Prelude.{◌==◌}
+use Rattle.std.specs.List.{All, filter, sum_by}
 use Rattle.std.proofs.lemmas.Bool.{cases_eq}
 use Rattle.std.proofs.lemmas.Grind.{common_steps}
 use Rattle.std.proofs.lemmas.List.{get_or-set_same, get_or-set_other}
 use Rattle.std.proofs.lemmas.List.Elements.{All-head, All-tail, filter-append}
-use Rattle.std.proofs.lemmas.List.Sums.{sum_by-append, sum_by-cons}
-use Rattle.clf_tree.specs.Lists.{numbers_below, each_two}
-use Rattle.set_bits.specs.declared.layout.Edge.{Edge}
+use Rattle.std.proofs.lemmas.List.Sums.{sum_by-cons}
+use Rattle.clf_tree.specs.Lists.{numbers_below}
 use Rattle.set_bits.specs.declared.layout.Layout.{Layout}
 use Rattle.set_bits.specs.Fitting.{slot_clafer}
-use Rattle.shape_encoder.specs.Comparing.{kin_below, kin_of, HoldsKin, turned_from, pair_cost, pairs_cost}
-use Rattle.shape_encoder.proofs.Steps.{numbers-push, and_true}
-use Rattle.shape_encoder.proofs.Compared.{same_number, same_is, sum_below-push}
+use Rattle.shape_encoder.specs.Comparing.{kin_below, kin_of, HoldsKin, turned_from, pairs_cost}
+use Rattle.shape_encoder.proofs.Steps.{numbers-push}
+use Rattle.shape_encoder.proofs.Compared.{same_number, sum_below-push}
 
 itself : (n : ℕ) → (n == n) ≡ true
 itself n = grind (arith, common_steps)

@@ -1,7 +1,7 @@
 -- Top-level clafers whose instances have different targets: no two edges from them lead to one slot.
-use Rattle.std.proofs.Common.{◌≡◌, ◌≢◌, ℕ, zero, suc, ◌+◌, ◌*◌, ◌<◌, ◌≤◌, Bool, true, false, cond, not, ◌&&◌, ◌||◌, List, [], ◌∷◌, ◌++◌, length, map, take, get_or, Option, Some, None, refl, sym, ap, ◌∙◌, subst, arith, ◌⊎◌, inl, inr}
-use Rattle.std.specs.Prelude.{slice_get, ◌==◌, nat_lt, is_some, is_none}
-use Rattle.std.specs.List.{All, filter, list_all, list_any}
+use Rattle.std.proofs.Common.{◌≡◌, ◌≢◌, ℕ, zero, suc, ◌+◌, ◌*◌, ◌<◌, ◌≤◌, Bool, true, false, cond, not, ◌&&◌, ◌||◌, List, [], ◌∷◌, length, get_or, Option, Some, None, refl, sym, ap, ◌∙◌, arith, ◌⊎◌, inl, inr}
+use Rattle.std.specs.Prelude.{◌==◌, nat_lt, is_some, is_none}
+use Rattle.std.specs.List.{filter, list_all}
 use Rattle.std.proofs.lemmas.Bool.{true≢false}
 use Rattle.std.proofs.lemmas.Bool.Decides.{eqb_tells, nat_tests}
 use Rattle.std.proofs.lemmas.Grind.{common_steps}
@@ -23,7 +23,7 @@ use Rattle.shown_instance.proofs.Placing.{same_truth, implied, same_number}
 use Rattle.shown_instance.proofs.Whole.{numbers_at, numbers_from}
 use Rattle.shown_instance.proofs.Once.{is_earlier, earlier_irrefl, each_two-map, two_at}
 use Rattle.shown_instance.proofs.Differing.{each_from, each_at, two_from, any_there, not_so, so_not, implies}
-use Rattle.shape_encoder.specs.Comparing.{turned, turned_by, clafer_from, is_counted, is_single_at, is_paired, nested_differ, leads_before, IsOrdered, NestedDiffer, AreSingleSoFar, single_cost, singles_cost}
+use Rattle.shape_encoder.specs.Comparing.{turned, turned_by, clafer_from, is_counted, is_single_at, nested_differ, leads_before, IsOrdered, NestedDiffer, AreSingleSoFar, single_cost, singles_cost}
 use Rattle.shape_encoder.proofs.Steps.{and_true, kept_two, list_all-push, numbers-push}
 use Rattle.shape_encoder.proofs.Compared.{cost_step, sum_below-push}
 

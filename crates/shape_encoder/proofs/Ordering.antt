@@ -1,7 +1,7 @@
 -- The edges of a layout that fits stand in the order of their ends.
-use Rattle.std.proofs.Common.{◌≡◌, ℕ, zero, suc, ◌+◌, ◌<◌, ◌≤◌, Bool, true, false, ◌&&◌, List, [], ◌∷◌, length, map, get_or, refl, sym, ap, ◌∙◌, subst, arith}
+use Rattle.std.proofs.Common.{◌≡◌, ℕ, zero, suc, ◌+◌, ◌<◌, ◌≤◌, true, ◌&&◌, List, [], ◌∷◌, length, map, get_or, refl, ap, ◌∙◌, arith}
 use Rattle.std.specs.Prelude.{nat_lt}
-use Rattle.std.specs.List.{All, flat_map, list_all, range_with_len}
+use Rattle.std.specs.List.{flat_map, list_all, range_with_len}
 use Rattle.std.proofs.lemmas.Bool.Decides.{nat_tests}
 use Rattle.std.proofs.lemmas.List.Folds.{list_all-append}
 use Rattle.clf_tree.specs.declared.model.Clafer.{Clafer}
@@ -10,7 +10,7 @@ use Rattle.clf_tree.specs.declared.instance.Node.{Node}
 use Rattle.clf_tree.specs.Nodes.{scope_of}
 use Rattle.set_bits.specs.declared.layout.Edge.{Edge}
 use Rattle.set_bits.specs.declared.layout.Layout.{Layout}
-use Rattle.set_bits.specs.Fitting.{Fits, nodes_below, nodes_within, referred}
+use Rattle.set_bits.specs.Fitting.{Fits, nodes_below, referred}
 use Rattle.shown_instance.proofs.Order.{both, together}
 use Rattle.shown_instance.proofs.Adapting.{all_pass}
 use Rattle.shown_instance.proofs.Fitted.{edges_between}

@@ -1,14 +1,14 @@
 -- Slots that are compared two by two, one after another.
-use Rattle.std.proofs.Common.{◌≡◌, ℕ, zero, suc, ◌+◌, ◌*◌, ◌<◌, ◌≤◌, Bool, true, false, not, ◌&&◌, ◌||◌, List, [], ◌∷◌, ◌++◌, length, take, get_or, Option, Some, None, refl, sym, ap, ◌∙◌, subst, arith}
+use Rattle.std.proofs.Common.{◌≡◌, ℕ, ◌+◌, ◌*◌, ◌<◌, ◌≤◌, Bool, true, false, not, ◌&&◌, List, [], length, take, get_or, Option, Some, refl, sym, ap, ◌∙◌, subst, arith}
 use Rattle.std.specs.Prelude.{slice_get}
 use Rattle.std.specs.List.{All, list_all, list_any, sum_by}
 use Rattle.std.proofs.lemmas.List.{get_or_read, take_more}
-use Rattle.std.proofs.lemmas.Option.{get_or_from_slice_get, slice_get_within}
+use Rattle.std.proofs.lemmas.Option.{get_or_from_slice_get}
 use Rattle.bool_circuit.specs.declared.gate.Wire.{Wire}
 use Rattle.bool_circuit.specs.declared.gate.Gate.{Gate}
-use Rattle.bool_circuit.specs.Circuit.{wire_value, entry, IsWireOf, Extends}
+use Rattle.bool_circuit.specs.Circuit.{wire_value, IsWireOf, Extends}
 use Rattle.bool_circuit.proofs.Extending.{extends_trans, extends_within}
-use Rattle.clf_tree.specs.Lists.{numbers_below, each_two}
+use Rattle.clf_tree.specs.Lists.{each_two}
 use Rattle.set_bits.specs.declared.layout.Edge.{Edge}
 use Rattle.shape_encoder.specs.Reading.{IsBit}
 use Rattle.shape_encoder.specs.Comparing.{list_at, joins, meet, IsMadeOf, AreTies, are_twins, twin_cost, place_cost, twins_cost, HasNoTwinSoFar, AreAloneSoFar}
@@ -69,7 +69,7 @@ pub twins_more : (parents targets : List (List Edge)) (old mid new : List Gate) 
 twins_more parents targets old mid new kin ups ontos all n earlier up onto ps ts right wire get p t s x w v = record {
   alone = record {
     extends = extends_within old new ((length ups + length ontos + sum_by (twin_cost parents targets) (take n kin)) + (2 * length ps + 2 * length ts + 5)) (length ups + length ontos + sum_by (twin_cost parents targets) (take (n + 1) kin)) (omega (arith, next, cost))
-    (extends_trans old mid new (length ups + length ontos + sum_by (twin_cost parents targets) (take n kin)) (2 * length ps + 2 * length ts + 5) s.alone.extends x);
+        (extends_trans old mid new (length ups + length ontos + sum_by (twin_cost parents targets) (take n kin)) (2 * length ps + 2 * length ts + 5) s.alone.extends x);
     is_wire = w;
     value = λ bits.
         v bits

@@ -1,11 +1,10 @@
 -- For each parent and each target, whether some slot was seen that has both.
-use Rattle.std.proofs.Common.{◌≡◌, ◌≢◌, ℕ, zero, suc, ◌+◌, ◌*◌, ◌<◌, ◌≤◌, Bool, true, false, not, ◌&&◌, ◌||◌, List, [], ◌∷◌, ◌++◌, length, take, get_or, set, Option, Some, None, refl, sym, ap, ◌∙◌, subst, arith, ◌⊎◌, inl, inr}
-use Rattle.std.specs.Prelude.{slice_get, nat_eq, ◌==◌, IfSome}
+use Rattle.std.proofs.Common.{◌≡◌, ℕ, zero, suc, ◌+◌, ◌*◌, ◌<◌, ◌≤◌, Bool, true, false, not, ◌&&◌, ◌||◌, List, [], ◌∷◌, length, take, get_or, set, Option, Some, refl, sym, ap, ◌∙◌, subst, arith, inl, inr}
+use Rattle.std.specs.Prelude.{slice_get, nat_eq, ◌==◌}
 use Rattle.std.specs.Option.{option_map_or}
-use Rattle.std.specs.List.{All, list_all, list_any, sum_by}
+use Rattle.std.specs.List.{All, list_all, list_any}
 use Rattle.std.specs.declared.vec.Vec.{Vec}
 use Rattle.std.proofs.lemmas.Bool.{cases_eq}
-use Rattle.std.proofs.lemmas.Bool.Decides.{eqb_tells}
 use Rattle.std.proofs.lemmas.Grind.{common_steps}
 use Rattle.std.proofs.lemmas.List.{take_all}
 use Rattle.std.proofs.lemmas.List.Folds.{list_any-append}
@@ -21,9 +20,9 @@ use Rattle.set_bits.proofs.Combining.{or_false, here_stays}
 use Rattle.shown_instance.specs.Shown.{is_taken}
 use Rattle.shown_instance.specs.Consistent.{has_taken}
 use Rattle.shape_encoder.specs.Reading.{IsBit}
-use Rattle.shape_encoder.specs.Comparing.{list_at, joins, meet, row_at, is_seen, AreRowsOf, is_met, HaveMetSoFar, IsMarkedSoFar, AreMarkedSoFar, AreTies, are_twins, is_below_onto, counted_cost, siblings_cost, AreAloneSoFar, AreCountedSoFar}
-use Rattle.shape_encoder.proofs.Steps.{and_true, list_all-push, all_item, take_item, sum-push, sum-room}
-use Rattle.shape_encoder.proofs.Compared.{any_same, wire_stays, table_stays}
+use Rattle.shape_encoder.specs.Comparing.{list_at, joins, meet, row_at, is_seen, AreRowsOf, is_met, HaveMetSoFar, IsMarkedSoFar, AreMarkedSoFar, are_twins, is_below_onto, counted_cost, siblings_cost, AreCountedSoFar}
+use Rattle.shape_encoder.proofs.Steps.{all_item, take_item, sum-push, sum-room}
+use Rattle.shape_encoder.proofs.Compared.{any_same, table_stays}
 use Rattle.shape_encoder.proofs.Paired.{alone_more, slot_is, none_alone}
 
 -- ---- any item of a list
@@ -193,10 +192,12 @@ module _ {A : Type 0} where
   pub row_marked : (old new : List Gate) (before mid : List (Vec (Option Wire) A)) (e : Edge) (targets : List Edge) (was row : Vec (Option Wire) A) → ((p : ℕ) → row_at mid p ≡ row_at before p) → e.from < length mid → row_at mid e.from ≡ was.items
       → AreRowsOf old before → IsMarkedSoFar old e.here targets was.items (length targets) new row.items → IsRowMarked old before e targets new (set mid e.from row)
   row_marked old new before mid e targets was row same l old_row r m = record {
-    rows = record { at = λ p. elim (cases_eq p e.from) [
-      | inl s ↦ subst (IsTableOf new) (sym (ap (row_at (set mid e.from row)) s ∙ set_same mid e.from row l)) m.wires
-      | inr o ↦ subst (IsTableOf new) (sym (set_other mid e.from p row o ∙ same p)) (table_stays old new (2 * length targets) (row_at before p) m.extends (r.at p))
-    ] };
+    rows = record {
+      at = λ p. elim (cases_eq p e.from) [
+        | inl s ↦ subst (IsTableOf new) (sym (ap (row_at (set mid e.from row)) s ∙ set_same mid e.from row l)) m.wires
+        | inr o ↦ subst (IsTableOf new) (sym (set_other mid e.from p row o ∙ same p)) (table_stays old new (2 * length targets) (row_at before p) m.extends (r.at p))
+      ];
+    };
     value = λ bits p t. elim (cases_eq p e.from) [
       | inl s ↦
           ap (λ k. is_here new (wire_at (row_at (set mid e.from row) k) t) bits) s ∙ ap (λ xs. is_here new (wire_at xs t) bits) (set_same mid e.from row l) ∙ m.value bits t
@@ -291,13 +292,13 @@ module _ {A : Type 0} where
       → AreCountedSoFar parents targets old kin all (n + 1) new next wire
   counted_more parents targets old mid new kin all rows next n slot ps ts right wire get p t s x w v r m = record {
     alone = alone_more parents targets old mid new kin all n (siblings_cost parents targets (take n kin)) (length ps * (4 * length ts + 3) + 3) (siblings_cost parents targets (take (n + 1) kin)) right wire (slice_get_within kin n slot get)
-    (let e = sum-push (counted_cost parents targets) kin n slot get in let f : length ps * (4 * length ts + 3) + 3 ≡ counted_cost parents targets slot = ap (λ es. length es * (4 * length ts + 3) + 3) p ∙ ap (λ es. length (list_at parents slot) * (4 * length es + 3) + 3) t in omega (arith, e, f))
-    s.alone x w
-    (λ bits. v bits
-    ∙ ap (λ b. wire_value mid right bits && not b)
-    (ap (λ es. list_any (is_met mid rows bits ts) es) p ∙ ap (λ es. list_any (is_met mid rows bits es) (list_at parents slot)) t ∙ met_twins parents targets mid rows bits (take n kin) slot (s.seen bits))
-    ∙ ap (λ b. wire_value mid right bits && b) (none_twice (λ j. are_twins parents targets bits j slot) (take n kin))
-    ∙ sym (ap (λ i. wire_value mid right bits && list_all (λ j. not (are_twins parents targets bits j i)) (take n kin)) (slot_is kin n slot get)));
+        (let e = sum-push (counted_cost parents targets) kin n slot get in let f : length ps * (4 * length ts + 3) + 3 ≡ counted_cost parents targets slot = ap (λ es. length es * (4 * length ts + 3) + 3) p ∙ ap (λ es. length (list_at parents slot) * (4 * length es + 3) + 3) t in omega (arith, e, f))
+        s.alone x w
+        (λ bits. v bits
+        ∙ ap (λ b. wire_value mid right bits && not b)
+        (ap (λ es. list_any (is_met mid rows bits ts) es) p ∙ ap (λ es. list_any (is_met mid rows bits es) (list_at parents slot)) t ∙ met_twins parents targets mid rows bits (take n kin) slot (s.seen bits))
+        ∙ ap (λ b. wire_value mid right bits && b) (none_twice (λ j. are_twins parents targets bits j slot) (take n kin))
+        ∙ sym (ap (λ i. wire_value mid right bits && list_all (λ j. not (are_twins parents targets bits j i)) (take n kin)) (slot_is kin n slot get)));
     wires = r;
     seen = λ bits q k.
         m bits q k ∙ ap (λ b. b || (has_taken ps bits q && has_taken ts bits k)) (s.seen bits q k)

@@ -21,7 +21,7 @@ use Rattle.set_bits.specs.Reaching.{wire_at}
 use Rattle.set_bits.specs.Reaching.{IsTableOf}
 use Rattle.shape_encoder.specs.Reading.{IsBit}
 use Rattle.shown_instance.specs.Consistent.{has_taken, are_single}
-use Rattle.shown_instance.specs.Distinct.{leads_there, lead_together, allows_two, tells_apart, targets_differ, integers_differ}
+use Rattle.shown_instance.specs.Distinct.{leads_there, allows_two, tells_apart, targets_differ, integers_differ}
 
 -- whether two instances of a clafer can have one parent, or none
 abbrev pub may_be_two : List Clafer → ℕ → Bool

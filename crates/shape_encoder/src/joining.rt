@@ -128,11 +128,7 @@ pub(crate) fn tie(
 }
 
 // Gives the slot from which an edge leads its wire.
-fn add_end(
-    circuit: &mut Circuit,
-    wires: &mut Vec<Option<Wire>>,
-    edge: Edge,
-) -> Result<(), NoMemory>
+fn add_end(circuit: &mut Circuit, wires: &mut Vec<Option<Wire>>, edge: Edge) -> Result<(), NoMemory>
     requires table { IsTableOf circuit.old wires.old.items }
     requires edge_in { IsWireOf circuit.old edge.here }
     requires room { length circuit.old + 1 ≤ MOST_WIRES }

@@ -56,7 +56,9 @@ fn with_slot(costs: Costs, parents: usize, targets: usize) -> Costs
 {
     Costs {
         counted: costs.counted.saturating_add(counted_cost(parents, targets)),
-        paired: costs.paired.saturating_add(paired_cost(parents, targets, costs.beside)),
+        paired: costs
+            .paired
+            .saturating_add(paired_cost(parents, targets, costs.beside)),
         beside: costs.beside.saturating_add(beside_cost(parents, targets)),
     }
 }
@@ -164,7 +166,16 @@ fn kin_differ(
     let mut all = circuit.constant(true)?;
     for clafer in 0..clafers.len() {
         let kin = &table[clafer];
-        all = and_kin(alloc, circuit, clafers, layout, ties, kin, clafer as u32, all)?;
+        all = and_kin(
+            alloc,
+            circuit,
+            clafers,
+            layout,
+            ties,
+            kin,
+            clafer as u32,
+            all,
+        )?;
     }
     Ok(all)
 }

@@ -131,11 +131,7 @@ fn mark_row(
 }
 
 // Gives a parent a row.
-fn grow(
-    alloc: Global,
-    rows: &mut Vec<Vec<Option<Wire>>>,
-    parent: usize,
-) -> Result<(), NoMemory>
+fn grow(alloc: Global, rows: &mut Vec<Vec<Option<Wire>>>, parent: usize) -> Result<(), NoMemory>
     ensures there { OnOk result (parent < length rows.new.items) }
     ensures same { OnOk result ((p : ℕ) → row_at rows.new.items p ≡ row_at rows.old.items p) }
 {

@@ -67,7 +67,11 @@ fn not_twice(
 }
 
 /// True where either is.
-pub(crate) fn either(circuit: &mut Circuit, before: Option<Wire>, here: Wire) -> Result<Wire, NoMemory>
+pub(crate) fn either(
+    circuit: &mut Circuit,
+    before: Option<Wire>,
+    here: Wire,
+) -> Result<Wire, NoMemory>
     requires before_in { IfSome before (IsWireOf circuit.old) }
     requires here_in { IsWireOf circuit.old here }
     requires room { length circuit.old + 1 ≤ MOST_WIRES }

@@ -147,9 +147,7 @@ fn and_alone(
     let slot = *kin.get(place);
     let parents = &ties.parents[slot];
     let targets = &ties.targets[slot];
-    let right = and_no_twin(
-        alloc, circuit, ties, kin, place, parents, targets, all,
-    )?;
+    let right = and_no_twin(alloc, circuit, ties, kin, place, parents, targets, all)?;
     Ok(right)
 }
 

@@ -1,4 +1,4 @@
-use Rattle.std.proofs.Common.{◌≡◌, ◌+◌, ◌≤◌, ◌&&◌, length, min, ap, sym, ◌∙◌, arith}
+use Rattle.std.proofs.Common.{◌&&◌, length, min, ap, ◌∙◌, arith}
 use Rattle.bool_circuit.specs.Circuit.{wire_value}
 use Rattle.shape_encoder.specs.Comparing.{siblings_cost, twins_cost, kin_cost}
 use Rattle.shape_encoder.proofs.Compared.{costs_same}

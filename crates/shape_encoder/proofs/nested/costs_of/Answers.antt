@@ -1,4 +1,4 @@
-use Rattle.std.proofs.Common.{◌≡◌, ◌+◌, ◌*◌, ◌∙◌, length, ap}
+use Rattle.std.proofs.Common.{◌+◌, ◌*◌, ◌∙◌, length, ap}
 use Rattle.shape_encoder.specs.Comparing.{told}
 use Rattle.shape_encoder.proofs.Paired.{list_here, kin_place}
 use Rattle.shape_encoder.proofs.Chosen.{no_costs, costs_more}

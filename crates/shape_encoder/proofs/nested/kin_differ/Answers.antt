@@ -1,4 +1,4 @@
-use Rattle.std.proofs.Common.{◌+◌, ◌<◌, length, arith}
+use Rattle.std.proofs.Common.{◌<◌, length, arith}
 use Rattle.shape_encoder.specs.Comparing.{kin_cost, kins_cost}
 use Rattle.shape_encoder.proofs.Compared.{cost_step, sum_below-room}
 use Rattle.shape_encoder.proofs.Chosen.{differ_more}

@@ -1,5 +1,5 @@
 use Rattle.std.proofs.Common.{◌+◌, length}
-use Rattle.shape_encoder.specs.Comparing.{targets_cost, singles_cost, values_cost}
+use Rattle.shape_encoder.specs.Comparing.{values_cost}
 use Rattle.shape_encoder.proofs.Unequal.{whole_sets}
 use Rattle.shape_encoder.proofs.sets.have_sets.Goals as goal
 

@@ -1,4 +1,4 @@
-use Rattle.std.proofs.Common.{◌≡◌, ◌+◌, ◌*◌, ◌<◌, ◌≤◌, length, take, arith}
+use Rattle.std.proofs.Common.{◌+◌, ◌*◌, length, take, arith}
 use Rattle.shape_encoder.specs.Comparing.{siblings_cost}
 use Rattle.shape_encoder.proofs.Compared.{nothing_more, costs_within}
 use Rattle.shape_encoder.proofs.Paired.{ties_stay, list_here, here_bits, kin_place}

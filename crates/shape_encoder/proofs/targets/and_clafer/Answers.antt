@@ -1,8 +1,8 @@
-use Rattle.std.proofs.Common.{◌≡◌, ◌+◌, ◌*◌, ◌&&◌, ◌≤◌, length, ap, ◌∙◌, arith}
+use Rattle.std.proofs.Common.{◌&&◌, ap, ◌∙◌}
 use Rattle.bool_circuit.specs.Circuit.{wire_value}
-use Rattle.shape_encoder.specs.Comparing.{clafer_from, turned_by, single_cost}
-use Rattle.shape_encoder.proofs.Compared.{bits_by, costs_same}
-use Rattle.shape_encoder.proofs.Meeting.{uncounted_value, edgeless_value, counted_value, single_cost_is, some_edges, counted_is}
+use Rattle.shape_encoder.specs.Comparing.{clafer_from}
+use Rattle.shape_encoder.proofs.Compared.{bits_by}
+use Rattle.shape_encoder.proofs.Meeting.{uncounted_value, counted_value, counted_is}
 use Rattle.shape_encoder.proofs.targets.and_clafer.Goals as goal
 
 pub returns-then-not-is_counted-clause-value : goal.returns-then-not-is_counted-clause-value

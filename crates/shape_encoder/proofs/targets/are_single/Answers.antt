@@ -1,4 +1,4 @@
-use Rattle.std.proofs.Common.{◌+◌, ◌<◌, length, arith}
+use Rattle.std.proofs.Common.{◌<◌, length, arith}
 use Rattle.shape_encoder.specs.Comparing.{clafer_from, single_cost, singles_cost}
 use Rattle.shape_encoder.proofs.Compared.{cost_step, list_by, sum_below-room}
 use Rattle.shape_encoder.proofs.Meeting.{singles_more}

@@ -1,4 +1,4 @@
-use Rattle.std.proofs.Common.{◌≡◌, ◌+◌, ◌*◌, ◌<◌, ◌≤◌, length, take, arith}
+use Rattle.std.proofs.Common.{◌+◌, ◌*◌, length, take, arith}
 use Rattle.std.specs.List.{sum_by}
 use Rattle.shape_encoder.specs.Comparing.{twin_cost}
 use Rattle.shape_encoder.proofs.Compared.{costs_within}

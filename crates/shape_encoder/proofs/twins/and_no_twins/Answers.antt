@@ -1,4 +1,4 @@
-use Rattle.std.proofs.Common.{◌+◌, ◌<◌, ◌≤◌, length, arith}
+use Rattle.std.proofs.Common.{◌+◌, ◌<◌, length, arith}
 use Rattle.shape_encoder.specs.Comparing.{place_cost, twins_cost}
 use Rattle.shape_encoder.proofs.Compared.{nothing_more, costs_within}
 use Rattle.shape_encoder.proofs.Paired.{none_alone, alone_more, twins_cost-push, twins_cost-room}
