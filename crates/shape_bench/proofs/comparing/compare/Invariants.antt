@@ -1,4 +1,4 @@
-use Rattle.std.proofs.Common.{◌≤◌, ◌×◌}
+use Rattle.std.proofs.Common.{◌≤◌}
 use Rattle.shape_bench.proofs.comparing.compare.Given as goal
 
 abbrev pub invariant-loop-number : goal.invariant-loop-number

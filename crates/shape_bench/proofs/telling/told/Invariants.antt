@@ -1,4 +1,3 @@
-use Rattle.std.proofs.Common.{◌≡◌, Unit}
 use Rattle.shape_bench.proofs.telling.told.Given as goal
 
 abbrev pub invariant-loop-slot : goal.invariant-loop-slot
