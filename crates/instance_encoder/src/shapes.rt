@@ -93,8 +93,8 @@ fn meets_rules(
 /// for the numbers alone. The model may have no clafer that contains itself, and abstract clafers have the scope 0.
 ///
 /// The layout and its shape take no more wires than the weight of the model has for its clafers, and seven more, so they fit into a circuit
-/// where the model weighs 8,000,000 at most: `shapes_are_within_the_weight` is the law. Most models take far fewer. The time grows with the
-/// number of wires, with the clafers times the slots, and with the clafers times the clafers.
+/// where the model weighs 8,000,000 at most: `shapes_are_within_the_weight` is the law. The time grows with the number of wires, with the
+/// clafers times the slots, and with the clafers times the clafers.
 pub fn shape(
     alloc: Global,
     circuit: &mut Circuit,
