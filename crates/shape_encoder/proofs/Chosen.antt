@@ -1,11 +1,10 @@
 -- Slots of nested clafers, in the form that takes fewer wires.
-use Rattle.std.proofs.Common.{◌≡◌, ℕ, zero, suc, ◌+◌, ◌*◌, ◌-◌, ◌^◌, ◌<◌, ◌≤◌, Bool, true, false, cond, not, ◌&&◌, ◌||◌, List, [], ◌∷◌, length, take, get_or, min, Some, refl, sym, ap, ◌∙◌, subst, arith, ◌⊎◌, inl, inr}
-use Rattle.std.specs.Prelude.{slice_get, nat_lt, ◌==◌, is_some}
+use Rattle.std.proofs.Common.{◌≡◌, ℕ, zero, suc, ◌+◌, ◌*◌, ◌-◌, ◌^◌, ◌<◌, ◌≤◌, Bool, true, false, cond, not, ◌&&◌, ◌||◌, List, [], ◌∷◌, length, take, get_or, min, Some, refl, sym, ap, ◌∙◌, subst, arith, inl, inr}
+use Rattle.std.specs.Prelude.{slice_get, ◌==◌, is_some}
 use Rattle.std.specs.List.{All, list_all, sum_by}
-use Rattle.std.proofs.Math.Nat.{min-eq_left, min-eq_right, min-le_left, min-le_right}
+use Rattle.std.proofs.Math.Nat.{min-eq_left, min-eq_right}
 use Rattle.std.proofs.lemmas.Bool.{cases_lt}
 use Rattle.std.proofs.lemmas.Option.{slice_get-get_or}
-use Rattle.std.proofs.lemmas.Bool.Decides.{nat_tests}
 use Rattle.std.proofs.lemmas.List.{take_all}
 use Rattle.std.proofs.lemmas.List.Elements.{All-head, All-tail, All-take}
 use Rattle.bool_circuit.specs.declared.gate.Wire.{Wire}
@@ -87,44 +86,6 @@ costs_more parents targets kin n slot counted paired beside counted_next paired_
     own =
         ap told (moved (length ps) (length ts) beside) ∙ ap (λ x. told (x + (length ps + length ts))) s.beside_is ∙ capped_add before (length ps + length ts) (2 ^ 64 - 1) ∙ ap told (sym (moved (length ps) (length ts) before))
         ∙ ap (λ es. told (length es + length ts + before)) (p ∙ ap (list_at parents) (sym (slot_is kin n slot get))) ∙ ap (λ es. told (length (list_at parents (get_or kin n 0)) + length es + before)) (t ∙ ap (list_at targets) (sym (slot_is kin n slot get)))
-
-pub costs_whole : (parents targets : List (List Edge)) (kin : List ℕ) (counted paired beside : ℕ) → AreCostsSoFar parents targets kin (length kin) counted paired beside
-    → nat_lt counted paired ≡ nat_lt (told (siblings_cost parents targets kin)) (told (twins_cost parents targets kin (length kin)))
-costs_whole parents targets kin counted paired beside s =
-    ap (λ n. nat_lt n paired) (s.counted_is ∙ ap (λ xs. told (siblings_cost parents targets xs)) (take_all (length kin) kin (omega arith))) ∙ ap (nat_lt (told (siblings_cost parents targets kin))) s.paired_is
-
--- the form that takes fewer wires, where it has room
-pub fewer_first : (a b : ℕ) → nat_lt (told a) (told b) ≡ true → a ≡ min a b
-fewer_first a b h =
-    let l = less (told a) (told b) h in
-    let x = min-le_right b (2 ^ 64 - 1) in
-    let y = min-le_left b (2 ^ 64 - 1) in
-    elim (cases_lt a (2 ^ 64 - 1)) [
-      | inl s ↦ let e : told a ≡ a = min_small a (2 ^ 64 - 1) (omega (arith, s)) in sym (min_small a b (omega (arith, l, y, e)))
-      | inr g ↦ let e : told a ≡ 2 ^ 64 - 1 = min_large a (2 ^ 64 - 1) g in absurd (omega (arith, l, x, e))
-    ]
-  where
-    less : (m n : ℕ) → nat_lt m n ≡ true → m < n
-    less m n t = grind (arith, nat_tests)
-
-pub fewer_second : (a b k : ℕ) → nat_lt (told a) (told b) ≡ false → k + min a b ≤ 268435456 → b ≡ min a b
-fewer_second a b k h room =
-    let l = most (told a) (told b) h in
-    let x = min-le_left a (2 ^ 64 - 1) in
-    elim (cases_lt b (2 ^ 64 - 1)) [
-      | inl s ↦ let e : told b ≡ b = min_small b (2 ^ 64 - 1) (omega (arith, s)) in sym (min_large a b (omega (arith, l, x, e)))
-      | inr g ↦
-          let e : told b ≡ 2 ^ 64 - 1 = min_large b (2 ^ 64 - 1) g in
-          let many : 2 ^ 64 - 1 ≤ a = omega (arith, l, x, e) in
-          absurd (large (cases_lt a b) many g)
-    ]
-  where
-    most : (m n : ℕ) → nat_lt m n ≡ false → n ≤ m
-    most m n t = grind (arith, nat_tests)
-
-    large : (a < b) ⊎ (b ≤ a) → 2 ^ 64 - 1 ≤ a → 2 ^ 64 - 1 ≤ b → ⊥
-    large (inl s) m n = let e = min_small a b (omega (arith, s)) in omega (arith, e, m, room)
-    large (inr s) m n = let e = min_large a b s in omega (arith, e, n, room)
 
 -- ---- the tables of a layout's edges
 

@@ -104,16 +104,6 @@ pub joined_meet : (gates : List Gate) (table : List (Option Wire)) (edges list :
 joined_meet gates table edges list bits m =
     any_same (joins gates table bits) (λ (e : Edge). has_taken edges bits e.from && entry bits e.here) list (λ e. ap (λ b. b && entry bits e.here) (m.leads bits e.from))
 
-pub tied_stays : (old new : List Gate) (n : ℕ) (edges : List Edge) (slot : ℕ) (table : List (Option Wire)) → Extends old new n → IsTiedBy old edges slot table → IsTiedBy new edges slot table
-tied_stays old new n edges slot table x t = record {
-  wires = record { wires = λ k. stays (wire_at table k) (t.wires.wires k) };
-  leads = λ bits k. here_stays n old new (wire_at table k) bits x (t.wires.wires k) ∙ t.leads bits k;
-}
-  where
-    stays : (o : Option Wire) → IfSome o (IsWireOf old) → IfSome o (IsWireOf new)
-    stays None i = i
-    stays (Some w) i = omega (arith, i, x.at_least)
-
 -- edges that join two slots
 pub joined_together : (gates : List Gate) (edges : List Edge) (j slot : ℕ) (table : List (Option Wire)) (list : List Edge) (bits : List Bool) → list ≡ turned_from edges j → IsTiedBy gates edges slot table → list_any (joins gates table bits) list ≡ lead_together edges bits j slot
 joined_together gates edges j slot table list bits same t =

@@ -1,5 +1,5 @@
 -- Top-level clafers whose instances have different targets: no two edges from them lead to one slot.
-use Rattle.std.proofs.Common.{◌≡◌, ◌≢◌, ℕ, zero, suc, ◌+◌, ◌*◌, ◌<◌, ◌≤◌, Bool, true, false, cond, not, ◌&&◌, ◌||◌, List, [], ◌∷◌, length, get_or, Option, Some, None, refl, sym, ap, ◌∙◌, arith, ◌⊎◌, inl, inr}
+use Rattle.std.proofs.Common.{◌≡◌, ◌≢◌, ℕ, zero, suc, ◌+◌, ◌<◌, Bool, true, false, not, ◌&&◌, ◌||◌, List, [], ◌∷◌, length, get_or, Option, Some, None, refl, sym, ap, ◌∙◌, arith, ◌⊎◌, inl, inr}
 use Rattle.std.specs.Prelude.{◌==◌, nat_lt, is_some, is_none}
 use Rattle.std.specs.List.{filter, list_all}
 use Rattle.std.proofs.lemmas.Bool.{true≢false}
@@ -188,24 +188,6 @@ uncounted_value clafers layout c all e bits = sym (ap (λ b. all && (not b || ar
 
 pub counted_value : (clafers : List Clafer) (layout : Layout) (c : ℕ) (edges : List Edge) → is_counted clafers c ≡ true → edges ≡ turned_by (clafer_from layout) layout.targets c → (bits : List Bool) → are_single edges bits ≡ is_single_at clafers layout bits c
 counted_value clafers layout c edges e same bits = ap (λ es. are_single es bits) same ∙ sym (ap (λ b. not b || are_single (turned_by (clafer_from layout) layout.targets c) bits) e)
-
-pub edgeless_value : (clafers : List Clafer) (layout : Layout) (c : ℕ) (all : Bool) (edges : List Edge) → edges ≡ turned_by (clafer_from layout) layout.targets c → edges ≡ [] → (bits : List Bool) → all ≡ (all && is_single_at clafers layout bits c)
-edgeless_value clafers layout c all edges same none bits = sym (ap (λ es. all && (not (is_counted clafers c) || are_single es bits)) (sym same ∙ none) ∙ free all (is_counted clafers c))
-  where
-    free : (a b : Bool) → (a && (not b || true)) ≡ a
-    free true true = refl
-    free true false = refl
-    free false b = refl
-
-pub single_cost_is : (clafers : List Clafer) (layout : Layout) (c : ℕ) (edges : List Edge) → is_counted clafers c ≡ true → edges ≡ turned_by (clafer_from layout) layout.targets c → 6 * length edges ≡ single_cost clafers layout c
-single_cost_is clafers layout c edges e same = ap (λ es. 6 * length es) same ∙ sym (ap (λ b. cond b (6 * length (turned_by (clafer_from layout) layout.targets c)) 0) e)
-
-pub some_edges : (edges : List Edge) → (edges ≡ [] → ⊥) → 4 * length edges + 2 ≤ 6 * length edges
-some_edges [] h = absurd (h refl)
-some_edges (e ∷ es) h = omega arith
-
-pub none_single : (old new : List Gate) (clafers : List Clafer) (layout : Layout) (wire : Wire) → Extends old new 1 → IsWireOf new wire → ((bits : List Bool) → wire_value new wire bits ≡ true) → AreSingleSoFar old clafers layout 0 (singles_cost clafers layout 0 + 1) new wire
-none_single old new clafers layout wire x w v = record { extends = x; is_wire = w; value = v }
 
 pub singles_more : (old mid new : List Gate) (clafers : List Clafer) (layout : Layout) (n : ℕ) (all wire : Wire) → AreSingleSoFar old clafers layout n (singles_cost clafers layout n + 1) mid all → Extends mid new (single_cost clafers layout n) → IsWireOf new wire
     → ((bits : List Bool) → wire_value new wire bits ≡ (wire_value mid all bits && is_single_at clafers layout bits n)) → AreSingleSoFar old clafers layout (n + 1) (singles_cost clafers layout (n + 1) + 1) new wire

@@ -101,22 +101,6 @@ twin_within parents targets kin n place earlier ps ts get l p t =
 
 -- ---- a slot
 
--- the cost of a slot by the lists of its edges
-pub place_cost_is : (parents targets : List (List Edge)) (kin : List ℕ) (n slot : ℕ) (ps ts : List Edge) → slice_get kin n ≡ Some slot → ps ≡ list_at parents slot → ts ≡ list_at targets slot
-    → length ps + length ts + sum_by (twin_cost parents targets) (take n kin) ≡ place_cost parents targets kin n
-place_cost_is parents targets kin n slot ps ts get p t =
-    let i = slot_is kin n slot get in
-    let a : length (list_at parents (get_or kin n 0)) ≡ length ps = ap (λ k. length (list_at parents k)) i ∙ sym (ap length p) in
-    let b : length (list_at targets (get_or kin n 0)) ≡ length ts = ap (λ k. length (list_at targets k)) i ∙ sym (ap length t) in
-    omega (arith, a, b)
-
-pub alone_value : (parents targets : List (List Edge)) (kin : List ℕ) (n slot : ℕ) (ps ts : List Edge) → slice_get kin n ≡ Some slot → ps ≡ list_at parents slot → ts ≡ list_at targets slot → (bits : List Bool)
-    → list_all (λ j. not (meet bits (list_at parents j) ps && meet bits (list_at targets j) ts)) (take n kin) ≡ list_all (λ j. not (are_twins parents targets bits j (get_or kin n 0))) (take n kin)
-alone_value parents targets kin n slot ps ts get p t bits =
-    ap (λ es. list_all (λ j. not (meet bits (list_at parents j) es && meet bits (list_at targets j) ts)) (take n kin)) p
-    ∙ ap (λ es. list_all (λ j. not (meet bits (list_at parents j) (list_at parents slot) && meet bits (list_at targets j) es)) (take n kin)) t
-    ∙ sym (ap (λ i. list_all (λ j. not (are_twins parents targets bits j i)) (take n kin)) (slot_is kin n slot get))
-
 -- ---- all slots
 
 pub none_alone : (parents targets : List (List Edge)) (old : List Gate) (kin : List ℕ) (all : Wire) → IsWireOf old all → Extends old old 0 → AreAloneSoFar parents targets old kin all 0 0 old all

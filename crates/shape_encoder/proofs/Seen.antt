@@ -106,9 +106,6 @@ module _ {A : Type 0} where
   pub no_row : (gates : List Gate) (rows : List (Vec (Option Wire) A)) (p : ℕ) (bits : List Bool) (ts : List Edge) → length rows ≤ p → list_any (joins gates (row_at rows p) bits) ts ≡ false
   no_row gates rows p bits ts l = ap (λ o. list_any (joins gates (option_map_or (λ (r : Vec (Option Wire) A). r.items) o []) bits) ts) (slice_get_past rows p l) ∙ no_joins gates bits ts
 
-  pub rows_stay : (old new : List Gate) (n : ℕ) (rows : List (Vec (Option Wire) A)) → Extends old new n → AreRowsOf old rows → AreRowsOf new rows
-  rows_stay old new n rows x r = record { at = λ p. table_stays old new n (row_at rows p) x (r.at p) }
-
   seen_stays : (old new : List Gate) (n : ℕ) (rows : List (Vec (Option Wire) A)) (bits : List Bool) (p t : ℕ) → Extends old new n → AreRowsOf old rows → is_seen new rows bits p t ≡ is_seen old rows bits p t
   seen_stays old new n rows bits p t x r = here_stays n old new (wire_at (row_at rows p) t) bits x ((r.at p).wires t)
 
@@ -117,9 +114,6 @@ module _ {A : Type 0} where
       ap (λ b. b && entry bits e.here) (any_same (joins new (row_at rows e.from) bits) (joins old (row_at rows e.from) bits) targets (λ f. ap (λ b. b && entry bits f.here) (seen_stays old new n rows bits e.from f.from x r)))
 
   -- ---- whether a parent and a target were seen together
-
-  pub none_met : (old new : List Gate) (rows : List (Vec (Option Wire) A)) (parents targets : List Edge) (wire : Wire) → Extends old new 1 → IsWireOf new wire → ((bits : List Bool) → wire_value new wire bits ≡ false) → HaveMetSoFar old rows parents targets 0 new wire
-  none_met old new rows parents targets wire x w v = record { extends = extends_within old new 1 (0 * (2 * length targets + 3) + 1) (omega arith) x; is_wire = w; value = v }
 
   pub met_more : (old mid new : List Gate) (rows : List (Vec (Option Wire) A)) (parents targets : List Edge) (n : ℕ) (e : Edge) (some wire : Wire) → AreRowsOf old rows → slice_get parents n ≡ Some e → HaveMetSoFar old rows parents targets n mid some
       → Extends mid new (2 * length targets + 3) → IsWireOf new wire → ((bits : List Bool) → wire_value new wire bits ≡ (wire_value mid some bits || is_met mid rows bits targets e)) → HaveMetSoFar old rows parents targets (n + 1) new wire

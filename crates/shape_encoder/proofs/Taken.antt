@@ -41,15 +41,6 @@ none_twice bits x (y ∷ ys) = ap (λ b. not (is_taken bits x.from y && entry bi
     join true true true = refl
     join true true false = refl
 
-pub none_taken : (old new : List Gate) (edges : List Edge) (table : List (Option Wire)) (single : Wire) → table ≡ [] → Extends old new 1 → IsWireOf new single → ((bits : List Bool) → wire_value new single bits ≡ true) → AreTaken old edges 0 new table single
-none_taken old new edges table single none x w v = rw none (record {
-  extends = x;
-  wires = record { wires = λ slot. tt };
-  single_wire = w;
-  taken = λ bits i. refl;
-  apart = v;
-})
-
 pub taken_more : (old mid new : List Gate) (edges : List Edge) (at : ℕ) (e : Edge) (table next : List (Option Wire)) (single once : Wire) → All (λ x. IsBit old x.here) edges → slice_get edges at ≡ Some e → AreTaken old edges at mid table single
     → Extends mid new 4 → IsWireOf new once → IsTableOf new next
     → ((bits : List Bool) → wire_value new once bits ≡ (wire_value mid single bits && not (is_here mid (wire_at table e.from) bits && wire_value mid e.here bits)))

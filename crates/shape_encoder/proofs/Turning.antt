@@ -83,9 +83,6 @@ held_more key edges at count e table get h = subst (λ xs. HoldsBy key xs count 
 
 -- ---- edges that join two slots
 
-pub none_joined : (old new : List Gate) (table : List (Option Wire)) (edges : List Edge) (wire : Wire) → Extends old new 1 → IsWireOf new wire → ((bits : List Bool) → wire_value new wire bits ≡ false) → IsJoinedSoFar old table edges 0 new wire
-none_joined old new table edges wire x w v = record { extends = x; is_wire = w; value = v }
-
 pub join_more : (old mid next new : List Gate) (table : List (Option Wire)) (edges : List Edge) (n : ℕ) (e : Edge) (some taken wire : Wire) → IsTableOf old table → All (λ x. IsBit old x.here) edges → slice_get edges n ≡ Some e
     → IsJoinedSoFar old table edges n mid some → Extends mid next 1 → Extends next new 1 → IsWireOf new wire
     → ((bits : List Bool) → wire_value next taken bits ≡ (is_here mid (wire_at table e.from) bits && wire_value mid e.here bits))

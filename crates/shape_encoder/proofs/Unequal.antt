@@ -65,18 +65,12 @@ equal_wire old first second new live slots n v w a b there same both all ga gb s
 same_is : (a b : ℕ) → a ≡ b → (a == b) ≡ true
 same_is a b e = grind (arith, common_steps)
 
-other_is : (a b : ℕ) → (a ≡ b → ⊥) → (a == b) ≡ false
-other_is a b e = grind (arith, common_steps)
-
 same_number : (a b : ℕ) → (a == b) ≡ true → a ≡ b
 same_number a b t = grind (arith, common_steps)
 
 others_differ : (clafers : List Clafer) (layout : Layout) (bits : List Bool) (v w : SlotBits) → (slot_clafer layout.slots v.slot == slot_clafer layout.slots w.slot) ≡ false → integers_differ clafers layout bits v w ≡ true
 others_differ clafers layout bits v w e =
     ap (λ b. not ((((b && tells_apart clafers (slot_clafer layout.slots v.slot)) && (is_none (parent_of clafers (slot_clafer layout.slots v.slot)) || lead_together layout.parents bits v.slot w.slot)) && (is_live layout bits v.slot && is_live layout bits w.slot)) && int_eq (integer_of (value_bits bits v)) (integer_of (value_bits bits w)))) e
-
-pub other_integer : (clafers : List Clafer) (layout : Layout) (v w : SlotBits) (all : Bool) → (slot_clafer layout.slots v.slot ≡ slot_clafer layout.slots w.slot → ⊥) → (bits : List Bool) → all ≡ (all && integers_differ clafers layout bits v w)
-other_integer clafers layout v w all ne bits = sym (ap (λ b. all && b) (others_differ clafers layout bits v w (other_is (slot_clafer layout.slots v.slot) (slot_clafer layout.slots w.slot) ne)) ∙ and_true all)
 
 untold_differ : (clafers : List Clafer) (layout : Layout) (bits : List Bool) (w : SlotBits) → tells_apart clafers (slot_clafer layout.slots w.slot) ≡ false → (vs : List SlotBits) → list_all (λ v. integers_differ clafers layout bits v w) vs ≡ true
 untold_differ clafers layout bits w e [] = refl
