@@ -22,6 +22,8 @@ pub(crate) struct Encoded<'a> {
     pub(crate) circuit: Circuit,
     pub(crate) layout: Layout,
     pub(crate) wire: Wire,
+    /// How many wires the shape took beside the inputs.
+    pub(crate) added: u32,
     pub(crate) ghost same: { core.clafers ≡ read.now.model.clafers },
     pub(crate) ghost fits: { Fits core.clafers read.now.scopes layout },
     pub(crate) ghost made: { IsWireOf circuit wire },
@@ -37,12 +39,15 @@ pub(crate) fn encode<'a>(alloc: Global, read: &'a Read) -> Result<Encoded<'a>, N
     let core = lower(alloc, &read.model, &read.scopes)?;
     let mut circuit = Circuit::new(alloc);
     let layout = layout(alloc, &mut circuit, &core, &read.scopes)?;
+    let before = circuit.len();
     let wire = shape(alloc, &mut circuit, &core, &read.scopes, &layout)?;
+    let added = circuit.len() - before;
     Ok(Encoded {
         read,
         core,
         circuit,
         layout,
         wire,
+        added,
     })
 }

@@ -86,8 +86,8 @@ fn show_wires(rt: &HostRuntime, name: &str, read: &Read) -> Result<(), Trouble> 
     let encoded = encode(rt.alloc(), read)?;
     let weight = read.weight;
     let inputs = encoded.circuit.inputs();
-    let wires = encoded.circuit.len();
-    println!(rt; "{name}: weight {weight}, {inputs} inputs, {wires} wires")?;
+    let wires = encoded.added;
+    println!(rt; "{name}: weight {weight}, {inputs} inputs, {wires} wires of shape")?;
     Ok(())
 }
 
@@ -145,8 +145,9 @@ fn time_shape(rt: &HostRuntime, name: &str, read: &Read) -> Result<(), Trouble> 
     let start = Instant::now(rt)?;
     let encoded = encode(rt.alloc(), read)?;
     let micros = start.elapsed(rt)?.as_micros();
-    let wires = encoded.circuit.len();
-    println!(rt; "{name}: {wires} wires in {micros} us")?;
+    let inputs = encoded.circuit.inputs();
+    let wires = encoded.added;
+    println!(rt; "{name}: {inputs} inputs and {wires} wires of shape in {micros} us")?;
     Ok(())
 }
 

@@ -21,9 +21,8 @@ shape-requires-clause-empty c =
 pub shape-requires-clause-room : goal.shape-requires-clause-room
 shape-requires-clause-room c =
     let read = c.args.read.now in
-    let known = c.model-plan.ensures.known in
     let layout = c.in_ok-layout.layout in
     let fits = subst (λ (cs : List Clafer). Fits cs read.scopes layout) c.in_ok-core.ensures.clafers c.in_ok-layout.ensures.fits in
-    let room = c.shapes_are_within_the_weight.ensures.room read.model read.scopes layout known.closed known.inherits_abstract (scopes_are_empty read.model.clafers read.scopes read.fit) (range_is_right read.scopes read.range) fits (omega (arith, read.weighs, read.light)) in
+    let room = c.shapes_are_within_the_weight.ensures.room read.model read.scopes layout fits (scopes_are_empty read.model.clafers read.scopes read.fit) c.model-plan.ensures.known.inherits_abstract (range_is_right read.scopes read.range) (omega (arith, read.weighs, read.light)) in
     let here : size layout + shape_cost c.in_ok-core.core.clafers read.scopes layout ≤ MOST_WIRES = subst (λ (cs : List Clafer). size layout + shape_cost cs read.scopes layout ≤ MOST_WIRES) (sym c.in_ok-core.ensures.clafers) room in
     omega (arith, here, c.in_ok-layout.ensures.alone)
