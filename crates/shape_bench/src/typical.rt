@@ -30,9 +30,7 @@ fn features(alloc: Global, features: u32) -> Result<Vec<u8>, AllocError> {
 /// So many parts, each with three attributes that they inherit.
 fn parts(alloc: Global, parts: u32) -> Result<Vec<u8>, AllocError> {
     let mut text = Vec::new(alloc);
-    text.extend_from_slice(
-        b"abstract Part\n    cost -> int\n    gain -> int\n    size -> int\n",
-    )?;
+    text.extend_from_slice(b"abstract Part\n    cost -> int\n    gain -> int\n    size -> int\n")?;
     for number in 0..parts {
         let part = format!(in alloc; "part{number} : Part\n")?;
         text.extend_from_slice(part.as_bytes())?;
