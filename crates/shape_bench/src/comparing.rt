@@ -113,10 +113,7 @@ fn compare_at(alloc: Global, encoded: &Encoded<'_>, bits: &[bool]) -> Result<Fin
 }
 
 /// Tries all lists of bits, if they are few enough.
-pub(crate) fn compare(
-    alloc: Global,
-    encoded: &Encoded<'_>,
-) -> Result<Option<Comparison>, NoMemory>
+pub(crate) fn compare(alloc: Global, encoded: &Encoded<'_>) -> Result<Option<Comparison>, NoMemory>
     requires { IsExact encoded.now.core.clafers encoded.now.read.now.scopes encoded.now.layout encoded.now.circuit encoded.now.wire }
 {
     let count = encoded.circuit.inputs();

@@ -116,7 +116,7 @@ fn show_comparison(rt: &HostRuntime, name: &str, read: &Read) -> Result<(), Trou
         right,
         differences,
     } = found;
-    println!(rt; "{name}: {lists} lists of bits, {right} right, {differences} differences")?;
+    println!(rt; "{name}: lists of bits {lists}, right {right}, differences {differences}")?;
     if differences > 0 {
         return Err(Trouble::Differs);
     }

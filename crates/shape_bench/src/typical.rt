@@ -30,9 +30,7 @@ fn features(alloc: Global, features: u32) -> Result<Vec<u8>, AllocError> {
 /// So many parts, each with three attributes that they inherit.
 fn parts(alloc: Global, parts: u32) -> Result<Vec<u8>, AllocError> {
     let mut text = Vec::new(alloc);
-    text.extend_from_slice(
-        b"abstract Part\n    cost -> int\n    gain -> int\n    size -> int\n",
-    )?;
+    text.extend_from_slice(b"abstract Part\n    cost -> int\n    gain -> int\n    size -> int\n")?;
     for number in 0..parts {
         let part = format!(in alloc; "part{number} : Part\n")?;
         text.extend_from_slice(part.as_bytes())?;
@@ -47,10 +45,14 @@ pub(crate) fn typical(alloc: Global) -> Result<Vec<Sample>, AllocError> {
         name: "200 optional features",
         text: features(alloc, 200)?,
     })?;
-    samples.push(of_text(alloc, "16 tasks on 8 nodes", b"node 8\ntask ->> node 16\n")?)?;
     samples.push(of_text(
         alloc,
-        "16 tasks on 8 nodes, each on another",
+        "16 tasks on 8 nodes, as a bag",
+        b"node 8\ntask ->> node 16\n",
+    )?)?;
+    samples.push(of_text(
+        alloc,
+        "16 tasks on 8 nodes, as a set",
         b"node 8\ntask -> node 16\n",
     )?)?;
     samples.push(Sample {
@@ -59,7 +61,7 @@ pub(crate) fn typical(alloc: Global) -> Result<Vec<Sample>, AllocError> {
     })?;
     samples.push(of_text(
         alloc,
-        "8 tasks in each of 4 boxes on 16 nodes, those of a box on different ones",
+        "8 tasks in each of 4 boxes on 16 nodes, as sets",
         b"node 16\nbox 4\n    task -> node 8\n",
     )?)?;
     Ok(samples)
