@@ -27,7 +27,7 @@ use std::alloc::Global;
 ///
 /// At top level the edges to a target are counted. The slots of a nested clafer are compared two by two, or counted for each parent and target,
 /// whichever takes fewer wires; integers are compared two by two. Only slots of one clafer are compared. The time is at most that of clafers
-/// times slots, of a row of slots for each parent for which they are counted, and of the wires.
+/// times slots, of a row of slots for each parent below which slots are counted, and of the wires.
 pub fn have_sets(
     alloc: Global,
     circuit: &mut Circuit,
