@@ -24,7 +24,7 @@ pub fn refused_if(first: Option<Refusal>, met: bool, code: u16, at: Span) -> Opt
     }
 }
 
-/// Whether a refusal here would come before the one that was found so far.
+/// Whether a refusal here may come before the one that was found so far. Where it says no, one here changes nothing.
 pub fn comes_first(first: Option<Refusal>, code: u16, at: Span) -> bool
     ensures { result ≡ false → (met : Bool) → with_refusals first (refused_if met code at) ≡ first }
 {
