@@ -94,7 +94,7 @@ fn meets_rules(
 ///
 /// The layout and its shape take no more wires than the weight of the model has for its clafers, and seven more, so they fit into a circuit
 /// where the model weighs 8,000,000 at most: `shapes_are_within_the_weight` is the law. The time grows with the number of wires, with the
-/// clafers times the slots, and with the clafers times the clafers.
+/// clafers times the slots, with the clafers times the clafers, and with the slots times the slots where set references are counted.
 pub fn shape(
     alloc: Global,
     circuit: &mut Circuit,
