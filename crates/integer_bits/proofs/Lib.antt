@@ -7,6 +7,8 @@ pub mod Turning
 pub mod BitTests
 pub mod Spelling
 pub mod Masks
+pub mod Cutting
+pub mod Choosing
 pub mod Trees
 pub mod Scaling
 pub mod Shifting

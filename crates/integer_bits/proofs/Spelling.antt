@@ -15,7 +15,7 @@ spelled_onto-push : (bs : List Bool) (b : Bool) (z : ℤ) → spelled_onto (bs +
 spelled_onto-push [] b z = refl
 spelled_onto-push (c ∷ bs) b z = ap (λ t. pos (bit c) +ℤ pos 2 *ℤ t) (spelled_onto-push bs b z)
 
-spelled_congruent : (bs : List Bool) (z : ℤ) → IsCongruent (length bs) (integer_of bs) (spelled_onto bs z)
+pub spelled_congruent : (bs : List Bool) (z : ℤ) → IsCongruent (length bs) (integer_of bs) (spelled_onto bs z)
 spelled_congruent [] z = congruent_any (pos 0) z
 spelled_congruent (true ∷ []) z = congruent_double 0 1 (negsuc 0) z (congruent_any (negsuc 0) z)
 spelled_congruent (false ∷ []) z = congruent_double 0 0 (pos 0) z (congruent_any (pos 0) z)

@@ -77,7 +77,7 @@ sum_of_bits n a b s c d size e =
     congruent_add n _ _ _ _ (congruent_add n _ _ _ _ (resized_congruent n a) (resized_congruent n b)) (congruent_same n (pos c) (pos c) refl) in
     congruent_trans n _ _ _ (congruent_sym n _ _ own) (congruent_trans n _ _ _ rest both)
 
-all_resized : (gates : List Gate) (n : ℕ) (a la : List Wire) (bits : List Bool) (k : ℕ) → la ≡ resized n a → length la ≤ k → wire_values gates (take k la) bits ≡ resized n (wire_values gates a bits)
+pub all_resized : (gates : List Gate) (n : ℕ) (a la : List Wire) (bits : List Bool) (k : ℕ) → la ≡ resized n a → length la ≤ k → wire_values gates (take k la) bits ≡ resized n (wire_values gates a bits)
 all_resized gates n a la bits k e l = ap (λ t. wire_values gates t bits) (take_all k la l ∙ e) ∙ values_resized gates n a bits
 
 pub sum_stands : (w n : ℕ) (old new : List Gate) (a b la lb sum few : List Wire) (carry last : Option Wire) → IsNumber w old a → IsNumber w old b → n ≡ min (max (length a) (length b)) (w - 1) + 1

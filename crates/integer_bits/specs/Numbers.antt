@@ -1,5 +1,5 @@
 -- Numbers as lists of bits and of wires, the lowest first.
-use Rattle.std.specs.Prelude.{◌≡◌, ℕ, zero, suc, ◌+◌, ◌-◌, ◌*◌, ◌^◌, ◌<◌, ◌≤◌, Bool, if◌then◌else◌, List, [], ◌∷◌, length, ℤ, pos, negsuc, ◌+ℤ◌, ◌*ℤ◌, ◌≤ℤ◌, ◌<ℤ◌}
+use Rattle.std.specs.Prelude.{◌≡◌, ℕ, zero, suc, ◌+◌, ◌-◌, ◌*◌, ◌/◌, ◌%◌, ◌^◌, ◌<◌, ◌≤◌, nat_eq, Bool, if◌then◌else◌, List, [], ◌∷◌, length, ℤ, pos, negsuc, ◌+ℤ◌, ◌*ℤ◌, ◌≤ℤ◌, ◌<ℤ◌}
 use Rattle.bool_circuit.specs.declared.gate.Wire.{Wire}
 use Rattle.bool_circuit.specs.declared.gate.Gate.{Gate}
 use Rattle.bool_circuit.specs.Circuit.{wire_values, AreWiresOf}
@@ -22,6 +22,24 @@ integer_of (b ∷ c ∷ bs) = pos (bit b) +ℤ pos 2 *ℤ integer_of (c ∷ bs)
 pub record FitsBits (width : ℕ) (z : ℤ) : Type 0 where
   pub low : pos 0 ≤ℤ (z +ℤ pos (2 ^ (width - 1)))
   pub high : z <ℤ pos (2 ^ (width - 1))
+
+-- whether an integer is odd, and its half, rounded down
+abbrev pub is_odd : ℤ → Bool
+is_odd (pos n) = nat_eq (n % 2) 1
+is_odd (negsuc n) = nat_eq (n % 2) 0
+
+abbrev pub half_of : ℤ → ℤ
+half_of (pos n) = pos (n / 2)
+half_of (negsuc n) = negsuc (n / 2)
+
+-- the lowest bits of an integer in two's complement
+unfoldable pub spelled : ℕ → ℤ → List Bool
+spelled zero z = []
+spelled (suc n) z = is_odd z ∷ spelled n (half_of z)
+
+-- the integer that its lowest bits spell: what so many bits keep of it
+unfoldable pub cut : ℕ → ℤ → ℤ
+cut width z = integer_of (spelled width z)
 
 -- the integer on some wires
 abbrev pub integer_at : List Gate → List Wire → List Bool → ℤ

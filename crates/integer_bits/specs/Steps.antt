@@ -1,5 +1,5 @@
 -- How far the loops over the bits of numbers have come, each on its way from an old circuit to a new one.
-use Rattle.std.specs.Prelude.{◌≡◌, ℕ, ◌+◌, ◌*◌, ◌^◌, ◌<◌, ◌≤◌, Bool, not, ◌&&◌, List, length, map, take, nat_lt, nat_eq, ℤ, pos, ◌+ℤ◌, ◌*ℤ◌, [], ◌∷◌, Option, Some, None, IfSome}
+use Rattle.std.specs.Prelude.{◌≡◌, ℕ, ◌+◌, ◌*◌, ◌^◌, ◌<◌, ◌≤◌, Bool, not, ◌&&◌, List, length, map, take, nat_lt, nat_eq, if◌then◌else◌, ℤ, pos, ◌+ℤ◌, ◌*ℤ◌, [], ◌∷◌, Option, Some, None, IfSome}
 use Rattle.bool_circuit.specs.declared.gate.Wire.{Wire}
 use Rattle.bool_circuit.specs.declared.gate.Gate.{Gate}
 use Rattle.bool_circuit.specs.Circuit.{wire_value, wire_values, IsWireOf, AreWiresOf, Extends}
@@ -43,6 +43,13 @@ pub record IsNarrowed (width : ℕ) (a ws : List Wire) : Type 0 where
   pub no_more : length ws ≤ length a
   pub wires : (gates : List Gate) → AreWiresOf gates a → AreWiresOf gates ws
   pub value : (gates : List Gate) (bits : List Bool) → IsCongruent width (integer_at gates ws bits) (integer_at gates a bits)
+
+-- the first i bits of the first number where `pick` is true, and of the second elsewhere, made on the way from the old circuit to the new
+pub record IsChosenSoFar (old : List Gate) (pick : Wire) (a b : List Wire) (i : ℕ) (new : List Gate) (chosen : List Wire) : Type 0 where
+  pub extends : Extends old new (3 * i)
+  pub size : length chosen ≡ i
+  pub wires : AreWiresOf new chosen
+  pub values : (bits : List Bool) → wire_values new chosen bits ≡ (if wire_value old pick bits then wire_values old (take i a) bits else wire_values old (take i b) bits)
 
 -- the test of the first i bits of two numbers
 pub record IsTestSoFar (test : List Bool → List Bool → Bool) (old : List Gate) (a b : List Wire) (i : ℕ) (new : List Gate) (told : Wire) : Type 0 where

@@ -2,7 +2,7 @@
 ghost use Rattle.std.specs.Prelude.{◌≡◌, ◌+◌, ◌*◌, ◌<◌, ◌≤◌, Bool, length, IfOk, List as Items, neg_ℤ};
 ghost use Rattle.bool_circuit.specs.Circuit.{wire_value, IsWireOf, AreWiresOf, Extends};
 ghost use Rattle.bool_circuit.specs.declared.circuit.TheConstants.{MOST_WIRES};
-ghost use Rattle.integer_bits.specs.Numbers.{integer_at, FitsBits, IsNumber, StandsFor};
+ghost use Rattle.integer_bits.specs.Numbers.{cut, integer_at, FitsBits, IsNumber, StandsFor};
 ghost use Rattle.integer_bits.specs.Steps.{IsNegativeSoFar};
 
 use crate::widths::{narrow, resize};
@@ -26,6 +26,7 @@ pub fn negate(
     ensures wires { IfOk result (AreWiresOf circuit.new) }
     ensures width { IfOk result (λ r. length r ≡ width) }
     ensures value { IfOk result (λ r. (bits : Items Bool) → FitsBits width (neg_ℤ (integer_at circuit.old a.now bits)) → integer_at circuit.new r bits ≡ neg_ℤ (integer_at circuit.old a.now bits)) }
+    ensures cut { IfOk result (λ r. (bits : Items Bool) → integer_at circuit.new r bits ≡ cut width (neg_ℤ (integer_at circuit.old a.now bits))) }
     ensures extends { Extends circuit.old circuit.new (16 * (width + 1)) }
 {
     let most = width as usize;

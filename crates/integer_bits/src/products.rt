@@ -3,7 +3,7 @@ ghost use Rattle.std.specs.Prelude.{◌≡◌, ◌+◌, ◌*◌, ◌<◌, ◌≤
 ghost use Rattle.std.specs.List.{list_all};
 ghost use Rattle.bool_circuit.specs.Circuit.{wire_value, wire_values, IsWireOf, AreWiresOf, Extends};
 ghost use Rattle.bool_circuit.specs.declared.circuit.TheConstants.{MOST_WIRES};
-ghost use Rattle.integer_bits.specs.Numbers.{integer_at, FitsBits, IsNumber, StandsFor};
+ghost use Rattle.integer_bits.specs.Numbers.{cut, integer_at, FitsBits, IsNumber, StandsFor};
 ghost use Rattle.integer_bits.specs.Totals.{is_constant_of, copies, number_of, tree_cost};
 
 use crate::negation::negate_within;
@@ -35,6 +35,7 @@ pub fn multiply(
     ensures wires { IfOk result (AreWiresOf circuit.new) }
     ensures width { IfOk result (λ r. length r ≡ width) }
     ensures value { IfOk result (λ r. (bits : Items Bool) → FitsBits width (integer_at circuit.old a.now bits *ℤ integer_at circuit.old b.now bits) → integer_at circuit.new r bits ≡ integer_at circuit.old a.now bits *ℤ integer_at circuit.old b.now bits) }
+    ensures cut { IfOk result (λ r. (bits : Items Bool) → integer_at circuit.new r bits ≡ cut width (integer_at circuit.old a.now bits *ℤ integer_at circuit.old b.now bits)) }
     ensures extends { Extends circuit.old circuit.new (16 * ((width + 1) * (width + 1))) }
 {
     if is_constant(circuit, a) {
@@ -86,6 +87,7 @@ fn times_number(
     ensures wires { IfOk result (AreWiresOf circuit.new) }
     ensures width { IfOk result (λ r. length r ≡ width) }
     ensures value { IfOk result (λ r. (bits : Items Bool) → FitsBits width (integer_at circuit.old a.now bits *ℤ integer_at circuit.old b.now bits) → integer_at circuit.new r bits ≡ integer_at circuit.old a.now bits *ℤ integer_at circuit.old b.now bits) }
+    ensures cut { IfOk result (λ r. (bits : Items Bool) → integer_at circuit.new r bits ≡ cut width (integer_at circuit.old a.now bits *ℤ integer_at circuit.old b.now bits)) }
     ensures extends { Extends circuit.old circuit.new (16 * ((width + 1) * (width + 1))) }
 {
     let most = width as usize;

@@ -2,7 +2,7 @@
 ghost use Rattle.std.specs.Prelude.{◌≡◌, ◌+◌, ◌*◌, ◌<◌, ◌≤◌, Bool, length, IfOk, List as Items, ◌+ℤ◌, pos, Option, None};
 ghost use Rattle.bool_circuit.specs.Circuit.{wire_value, wire_values, IsWireOf, AreWiresOf, Extends};
 ghost use Rattle.bool_circuit.specs.declared.circuit.TheConstants.{MOST_WIRES};
-ghost use Rattle.integer_bits.specs.Numbers.{bit, integer_at, FitsBits, IsNumber, StandsFor};
+ghost use Rattle.integer_bits.specs.Numbers.{bit, cut, integer_at, FitsBits, IsNumber, StandsFor};
 ghost use Rattle.integer_bits.specs.Steps.{carry_at, IsCarryOf, IsSumSoFar};
 
 use crate::widths::{narrow, resize};
@@ -30,6 +30,7 @@ pub fn add(
     ensures wires { IfOk result (AreWiresOf circuit.new) }
     ensures width { IfOk result (λ r. length r ≡ width) }
     ensures value { IfOk result (λ r. (bits : Items Bool) → FitsBits width (integer_at circuit.old a.now bits +ℤ integer_at circuit.old b.now bits) → integer_at circuit.new r bits ≡ integer_at circuit.old a.now bits +ℤ integer_at circuit.old b.now bits) }
+    ensures cut { IfOk result (λ r. (bits : Items Bool) → integer_at circuit.new r bits ≡ cut width (integer_at circuit.old a.now bits +ℤ integer_at circuit.old b.now bits)) }
     ensures extends { Extends circuit.old circuit.new (16 * (width + 1)) }
 {
     let most = width as usize;

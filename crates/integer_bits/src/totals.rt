@@ -4,7 +4,7 @@
 ghost use Rattle.std.specs.Prelude.{◌≡◌, ◌+◌, ◌*◌, ◌<◌, ◌≤◌, ◌&&◌, Bool, length, map, IfOk, List as Items, ◌+ℤ◌, pos};
 ghost use Rattle.bool_circuit.specs.Circuit.{wire_value, wire_values, IsWireOf, AreWiresOf, Extends};
 ghost use Rattle.bool_circuit.specs.declared.circuit.TheConstants.{MOST_WIRES};
-ghost use Rattle.integer_bits.specs.Numbers.{integer_at, FitsBits, IsNumber, StandsFor};
+ghost use Rattle.integer_bits.specs.Numbers.{cut, integer_at, FitsBits, IsNumber, StandsFor};
 ghost use Rattle.integer_bits.specs.Steps.{IsMasked};
 ghost use Rattle.integer_bits.specs.Totals.{ArePartsOf, IsPartOf, count_true, sum_of_parts, where_true, tree_cost};
 
@@ -40,6 +40,7 @@ pub fn sum_if(
     ensures wires { IfOk result (AreWiresOf circuit.new) }
     ensures width { IfOk result (λ r. length r ≡ width) }
     ensures value { IfOk result (λ r. (bits : Items Bool) → FitsBits width (sum_of_parts circuit.old parts.now bits) → integer_at circuit.new r bits ≡ sum_of_parts circuit.old parts.now bits) }
+    ensures cut { IfOk result (λ r. (bits : Items Bool) → integer_at circuit.new r bits ≡ cut width (sum_of_parts circuit.old parts.now bits)) }
     ensures extends { Extends circuit.old circuit.new (32 * ((length parts.now + 1) * (width + 1))) }
 {
     let most = width as usize;
@@ -64,6 +65,7 @@ pub fn count(
     ensures wires { IfOk result (AreWiresOf circuit.new) }
     ensures width { IfOk result (λ r. length r ≡ width) }
     ensures value { IfOk result (λ r. (bits : Items Bool) → FitsBits width (pos (count_true (wire_values circuit.old wires.now bits))) → integer_at circuit.new r bits ≡ pos (count_true (wire_values circuit.old wires.now bits))) }
+    ensures cut { IfOk result (λ r. (bits : Items Bool) → integer_at circuit.new r bits ≡ cut width (pos (count_true (wire_values circuit.old wires.now bits)))) }
     ensures extends { Extends circuit.old circuit.new (32 * ((length wires.now + 1) * (width + 1))) }
 {
     let most = width as usize;

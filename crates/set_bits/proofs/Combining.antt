@@ -13,7 +13,7 @@ use Rattle.bool_circuit.proofs.Values.{extends_none}
 use Rattle.bool_circuit.proofs.Extending.{extends_trans, extends_within}
 use Rattle.set_bits.specs.declared.sets.Member.{Member}
 use Rattle.set_bits.specs.declared.sets.Operation.{Operation}
-use Rattle.set_bits.specs.declared.sets.Operation.TheVariants.{Union, Meet, Minus}
+use Rattle.set_bits.specs.declared.sets.Operation.TheVariants.{Union, Meet, Minus, Differ}
 use Rattle.set_bits.specs.Sets.{is_in, is_here, AscendFrom, IsSetOf, combined}
 use Rattle.set_bits.specs.Merging.{lowest_slot, taken, others, members_at, AscendBetween, IsCombined}
 
@@ -35,6 +35,7 @@ nothing_combined : (op : Operation) → combined op false false ≡ false
 nothing_combined Union = refl
 nothing_combined Meet = refl
 nothing_combined Minus = refl
+nothing_combined Differ = refl
 
 -- ---- sets
 

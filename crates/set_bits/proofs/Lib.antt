@@ -4,4 +4,5 @@ pub mod Falsity
 pub mod Following
 pub mod Growing
 pub mod Marks
+pub mod Staying
 pub mod Worked

@@ -3,10 +3,10 @@ use Rattle.std.specs.Prelude.{◌≡◌, ℕ, ◌+◌, ◌≤◌, Bool, false, n
 use Rattle.std.specs.List.{All, list_any}
 use Rattle.bool_circuit.specs.declared.gate.Wire.{Wire}
 use Rattle.bool_circuit.specs.declared.gate.Gate.{Gate}
-use Rattle.bool_circuit.specs.Circuit.{wire_value, IsWireOf}
+use Rattle.bool_circuit.specs.Circuit.{bool_xor, wire_value, IsWireOf}
 use Rattle.set_bits.specs.declared.sets.Member.{Member}
 use Rattle.set_bits.specs.declared.sets.Operation.{Operation}
-use Rattle.set_bits.specs.declared.sets.Operation.TheVariants.{Union, Meet, Minus}
+use Rattle.set_bits.specs.declared.sets.Operation.TheVariants.{Union, Meet, Minus, Differ}
 use Rattle.set_bits.specs.declared.layout.Edge.{Edge}
 
 -- whether a slot is in a set at given bits
@@ -34,6 +34,7 @@ abbrev pub combined : Operation → Bool → Bool → Bool
 combined Union a b = a || b
 combined Meet a b = a && b
 combined Minus a b = a && not b
+combined Differ a b = bool_xor a b
 
 -- whether an edge that is there leads from the set to a slot
 abbrev pub is_reached : List Gate → List Member → List Edge → ℕ → List Bool → Bool
@@ -44,6 +45,18 @@ is_reached gates set (e ∷ es) slot bits = (nat_eq e.to slot && (is_in gates se
 abbrev pub has_slot : List Member → ℕ → Bool
 has_slot [] slot = false
 has_slot (m ∷ ms) slot = nat_eq m.slot slot || has_slot ms slot
+
+-- which slots may be made of two sets
+abbrev pub may_combine : Operation → Bool → Bool → Bool
+may_combine Union a b = a || b
+may_combine Meet a b = a && b
+may_combine Minus a b = a
+may_combine Differ a b = a || b
+
+-- whether an edge leads from a slot that has a member to a slot
+abbrev pub leads_to : List Member → List Edge → ℕ → Bool
+leads_to set [] slot = false
+leads_to set (e ∷ es) slot = (nat_eq e.to slot && has_slot set e.from) || leads_to set es slot
 
 -- how many edges begin at a slot that has a member
 abbrev pub leading : List Member → List Edge → ℕ

@@ -1,8 +1,8 @@
 //! Images of sets along edges.
-ghost use Rattle.std.specs.Prelude.{◌≡◌, ℕ, ◌+◌, ◌*◌, ◌≤◌, Bool, ◌||◌, ◌&&◌, length, nat_eq, if◌then◌else◌, IfOk, IfSome, OnOk, OnErr, All, List as Items, Some};
+ghost use Rattle.std.specs.Prelude.{◌≡◌, ℕ, ◌+◌, ◌*◌, ◌≤◌, Bool, true, ◌||◌, ◌&&◌, length, nat_eq, if◌then◌else◌, IfOk, IfSome, OnOk, OnErr, All, List as Items, Some};
 ghost use Rattle.bool_circuit.specs.Circuit.{wire_value, IsWireOf, Extends};
 ghost use Rattle.bool_circuit.specs.declared.circuit.TheConstants.{MOST_WIRES};
-ghost use Rattle.set_bits.specs.Sets.{is_in, is_here, is_reached, leading, slots_into, AscendFrom, AreDistinct, IsSetOf};
+ghost use Rattle.set_bits.specs.Sets.{is_in, is_here, is_reached, has_slot, leads_to, leading, slots_into, AscendFrom, AreDistinct, IsSetOf};
 ghost use Rattle.set_bits.specs.declared.layout.Edge.{Edge};
 ghost use Rattle.set_bits.specs.declared.sets.Member.{Member};
 ghost use Rattle.set_bits.specs.Reaching.{wire_at, present, IsTableOf, IsTabled, IsCollected, IsFollowed};
@@ -16,7 +16,8 @@ use std::alloc::Global;
 // How many slots there may be.
 const MOST_SLOTS: usize = 4_294_967_296;
 
-/// The slots to which an edge that is there leads from a slot of the set, with at most two wires for each edge that begins at a member.
+/// The slots to which an edge that is there leads from a slot of the set, with at most two wires for each edge that begins at a member. It has
+/// only slots to which an edge leads from a member.
 ///
 /// Two tables by slot hold the wires of the set and those of the image so far, so the time grows with the number of edges and with the
 /// greatest slot.
@@ -31,6 +32,8 @@ pub fn image(
     requires room { length circuit.old + 2 * leading from.now edges.now ≤ MOST_WIRES }
     ensures set { IfOk result (IsSetOf circuit.new) }
     ensures value { IfOk result (λ r. (bits : Items Bool) (slot : ℕ) → is_in circuit.new r slot bits ≡ is_reached circuit.old from.now edges.now slot bits) }
+    ensures few { IfOk result (λ r. length r ≤ leading from.now edges.now) }
+    ensures slots { IfOk result (λ r. (slot : ℕ) → has_slot r slot ≡ true → leads_to from.now edges.now slot ≡ true) }
     ensures extends { Extends circuit.old circuit.new (2 * leading from.now edges.now) }
 {
     let starts = table_of(alloc, from)?;

@@ -6,13 +6,15 @@
 
 mod counts;
 mod images;
+mod laws;
 mod layout;
 mod sets;
 
 pub use counts::{at_least, at_most};
 pub use images::{edges_from_members_are_few, image};
+pub use laws::{grown_circuits_keep_sets, held_integers_fit};
 pub use layout::{Edge, Layout, SlotBits};
-pub use sets::{Member, meet, minus, union};
+pub use sets::{Member, choose_sets, differ, meet, minus, union};
 
 #[cfg(test)]
 mod tests;
