@@ -124,3 +124,7 @@ stands_cut w gates z ws r s l e bits =
     let some : 0 < length ws = s.number.some in
     let g : FitsBits w (integer_at gates ws bits) = fits_wider (length ws) w _ s.number.few (integer_at_fits gates ws bits some) in
     integer_of_resized_wires gates w ws r bits e some l g ∙ cut_of_congruent w (integer_at gates ws bits) (z bits) l (s.value bits) g
+
+-- and the number itself where that fits
+pub kept_exact : (w : ℕ) (x z : ℤ) → 0 < w → x ≡ cut w z → FitsBits w z → x ≡ z
+kept_exact w x z l e f = e ∙ cut_of_fitting w z l f

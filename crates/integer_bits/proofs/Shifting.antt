@@ -14,8 +14,9 @@ use Rattle.integer_bits.proofs.Congruent.{congruent_add, congruent_trans, congru
 use Rattle.integer_bits.proofs.Resizing.{length_values}
 use Rattle.integer_bits.proofs.Adding.{and_none}
 use Rattle.integer_bits.proofs.Scaling.{times_split, congruent_times, integer_of-append, number_of-append}
-use Rattle.integer_bits.proofs.Widening.{integer_stays, stands_exact, stands_congruent, stands_equal}
-use Rattle.integer_bits.specs.Numbers.{bit, natural_of, integer_of, integer_at, FitsBits, IsCongruent, IsNumber, StandsFor, resized}
+use Rattle.integer_bits.proofs.Cutting.{stands_cut}
+use Rattle.integer_bits.proofs.Widening.{integer_stays, stands_congruent, stands_equal}
+use Rattle.integer_bits.specs.Numbers.{bit, natural_of, integer_of, integer_at, cut, IsCongruent, IsNumber, StandsFor, resized}
 use Rattle.integer_bits.specs.Steps.{IsNarrowed}
 use Rattle.integer_bits.specs.Totals.{copies, number_of, where_true}
 
@@ -113,9 +114,9 @@ times_joined w m n old first next new a by low high x y s signed k el eh lh wa w
     let cy : IsCongruent w (integer_at next y bits) (integer_at old a bits *ℤ number_of signed (wire_values old high bits)) = congruent_trans w _ _ _ (sy.value bits) (congruent_same w _ _ ya) in
     congruent_trans w _ _ _ (congruent_add w _ _ _ _ cx (congruent_times w (pos (2 ^ length low)) _ _ cy)) (congruent_same w _ _ (sym whole)))
 
-pub product_exact : (w : ℕ) (old new : List Gate) (a b by bys product r : List Wire) → 0 < w → IsNarrowed w b by → bys ≡ by → StandsFor w new (λ bits. integer_at old a bits *ℤ number_of true (wire_values old bys bits)) product → r ≡ resized w product
-    → (bits : List Bool) → FitsBits w (integer_at old a bits *ℤ integer_at old b bits) → integer_at new r bits ≡ integer_at old a bits *ℤ integer_at old b bits
-product_exact w old new a b by bys product r l n eb s e bits f =
+pub product_cut : (w : ℕ) (old new : List Gate) (a b by bys product r : List Wire) → 0 < w → IsNarrowed w b by → bys ≡ by → StandsFor w new (λ bits. integer_at old a bits *ℤ number_of true (wire_values old bys bits)) product → r ≡ resized w product
+    → (bits : List Bool) → integer_at new r bits ≡ cut w (integer_at old a bits *ℤ integer_at old b bits)
+product_cut w old new a b by bys product r l n eb s e bits =
     let whole : StandsFor w new (λ bits. integer_at old a bits *ℤ integer_at old b bits) product = stands_congruent w new _ _ product s (λ bits.
     congruent_trans w _ _ _ (congruent_same w _ _ (ap (λ t. integer_at old a bits *ℤ number_of true (wire_values old t bits)) eb)) (congruent_times w (integer_at old a bits) _ _ (n.value old bits))) in
-    stands_exact w new _ product r whole l e bits f
+    stands_cut w new _ product r whole l e bits

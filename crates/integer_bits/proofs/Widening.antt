@@ -43,14 +43,7 @@ negative_fits m n x h l f =
 
 -- ---- what stands for a number
 
--- on all wires of the width it is exact
-pub stands_exact : (w : ℕ) (gates : List Gate) (z : List Bool → ℤ) (ws r : List Wire) → StandsFor w gates z ws → 0 < w → r ≡ resized w ws → (bits : List Bool) → FitsBits w (z bits) → integer_at gates r bits ≡ z bits
-stands_exact w gates z ws r s l e bits f =
-    let some : 0 < length ws = s.number.some in
-    let g : FitsBits w (integer_at gates ws bits) = fits_wider (length ws) w _ s.number.few (integer_at_fits gates ws bits some) in
-    integer_of_resized_wires gates w ws r bits e some l g ∙ congruent_fits w (integer_at gates ws bits) (z bits) l (s.value bits) g f
-
--- and so is a congruent number
+-- and for a congruent number
 pub stands_congruent : (w : ℕ) (gates : List Gate) (x z : List Bool → ℤ) (ws : List Wire) → StandsFor w gates x ws → ((bits : List Bool) → IsCongruent w (x bits) (z bits)) → StandsFor w gates z ws
 stands_congruent w gates x z ws s c = record { number = s.number; value = λ bits. congruent_trans w _ _ _ (s.value bits) (c bits) }
 

@@ -17,10 +17,10 @@ use Rattle.bool_circuit.proofs.Values.{extends_none}
 use Rattle.bool_circuit.proofs.Extending.{extends_trans}
 use Rattle.set_bits.specs.declared.sets.Member.{Member}
 use Rattle.set_bits.specs.declared.layout.Edge.{Edge}
-use Rattle.set_bits.specs.Sets.{is_in, is_here, is_reached, has_slot, leading, AscendFrom, IsSetOf}
+use Rattle.set_bits.specs.Sets.{is_in, is_here, is_reached, has_slot, leads_to, leading, AscendFrom, IsSetOf}
 use Rattle.set_bits.specs.Merging.{members_at}
 use Rattle.set_bits.specs.Reaching.{wire_at, IsTableOf, IsTabled, IsCollected, present, IsFollowed}
-use Rattle.set_bits.proofs.Combining.{or_false, and_false, or_assoc, is_in-append, is_in-members, here_stays, ascend_pushed, ascend_from, member_wires}
+use Rattle.set_bits.proofs.Combining.{or_false, and_false, or_assoc, has_slot-append, has_slot-members, is_in-append, is_in-members, here_stays, ascend_pushed, ascend_from, member_wires}
 
 -- ---- the table of a set
 
@@ -46,10 +46,6 @@ or_true false = refl
 
 at_place : (set : List Member) (i : ℕ) (m : Member) → slice_get set i ≡ Some m → i < length set → take (i + 1) set ≡ take i set ++ m ∷ []
 at_place set i m e l = take_more set i m l ∙ ap (λ y. take i set ++ y ∷ []) (get_or_from_slice_get set i m m e)
-
-has_slot-append : (xs ys : List Member) (k : ℕ) → has_slot (xs ++ ys) k ≡ (has_slot xs k || has_slot ys k)
-has_slot-append [] ys k = refl
-has_slot-append (m ∷ ms) ys k = ap (λ b. nat_eq m.slot k || b) (has_slot-append ms ys k) ∙ sym (or_assoc (nat_eq m.slot k) (has_slot ms k) (has_slot ys k))
 
 pub none_tabled : (set : List Member) → IsTabled set 0 []
 none_tabled set = record { wires = λ gates h. record { wires = λ slot. tt }; value = λ gates bits slot. refl; slots = λ slot. refl }
@@ -95,6 +91,16 @@ written old table i k o l h = elim (eqb_tells i k) [
 pub nothing_reached : (old : List Gate) (table : List (Option Wire)) (edge : Edge) (bits : List Bool) (k : ℕ) → is_here old (wire_at table k) bits ≡ (is_here old (wire_at table k) bits || (nat_eq edge.to k && (false && wire_value old edge.here bits)))
 nothing_reached old table edge bits k = sym (ap (λ b. is_here old (wire_at table k) bits || b) (and_false (nat_eq edge.to k)) ∙ or_false (is_here old (wire_at table k) bits))
 
+pub nothing_some : (table : List (Option Wire)) (edge : Edge) (k : ℕ) → is_some (wire_at table k) ≡ (is_some (wire_at table k) || (nat_eq edge.to k && false))
+nothing_some table edge k = sym (ap (λ b. is_some (wire_at table k) || b) (and_false (nat_eq edge.to k)) ∙ or_false (is_some (wire_at table k)))
+
+pub reached_some : (table more : List (Option Wire)) (to : ℕ) (wire : Wire) → ((k : ℕ) → wire_at more k ≡ (if nat_eq to k then Some wire else wire_at table k)) → (k : ℕ) → is_some (wire_at more k) ≡ (is_some (wire_at table k) || (nat_eq to k && true))
+reached_some table more to wire h k = ap is_some (h k) ∙ by (nat_eq to k)
+  where
+    by : (b : Bool) → is_some (if b then Some wire else wire_at table k) ≡ (is_some (wire_at table k) || (b && true))
+    by true = sym (or_true (is_some (wire_at table k)))
+    by false = sym (or_false (is_some (wire_at table k)))
+
 pub reached_wires : (n : ℕ) (old new : List Gate) (table more : List (Option Wire)) (to : ℕ) (wire : Wire) → Extends old new n → IsTableOf old table → IsWireOf new wire → ((k : ℕ) → wire_at more k ≡ (if nat_eq to k then Some wire else wire_at table k)) → IsTableOf new more
 reached_wires n old new table more to wire e t w h = record { wires = λ k. subst (λ o. IfSome o (IsWireOf new)) (sym (h k)) (by k (nat_eq to k)) }
   where
@@ -132,12 +138,16 @@ is_reached-append : (gates : List Gate) (set : List Member) (xs ys : List Edge) 
 is_reached-append gates set [] ys k bits = refl
 is_reached-append gates set (e ∷ es) ys k bits = ap (λ b. (nat_eq e.to k && (is_in gates set e.from bits && wire_value gates e.here bits)) || b) (is_reached-append gates set es ys k bits) ∙ sym (or_assoc _ (is_reached gates set es k bits) (is_reached gates set ys k bits))
 
+leads_to-append : (set : List Member) (xs ys : List Edge) (k : ℕ) → leads_to set (xs ++ ys) k ≡ (leads_to set xs k || leads_to set ys k)
+leads_to-append set [] ys k = refl
+leads_to-append set (e ∷ es) ys k = ap (λ b. (nat_eq e.to k && has_slot set e.from) || b) (leads_to-append set es ys k) ∙ sym (or_assoc (nat_eq e.to k && has_slot set e.from) (leads_to set es k) (leads_to set ys k))
+
 leading-append : (set : List Member) (xs ys : List Edge) → leading set (xs ++ ys) ≡ leading set xs + leading set ys
 leading-append set [] ys = omega arith
 leading-append set (e ∷ es) ys = omega (arith, leading-append set es ys)
 
 pub none_followed : (old : List Gate) (from : List Member) → IsFollowed old from [] old []
-none_followed old from = record { extends = extends_none old (2 * 0); wires = record { wires = λ slot. tt }; value = λ bits slot. refl }
+none_followed old from = record { extends = extends_none old (2 * 0); wires = record { wires = λ slot. tt }; value = λ bits slot. refl; slots = λ slot. refl }
 
 edges_at : (edges : List Edge) (i : ℕ) (e : Edge) → slice_get edges i ≡ Some e → i < length edges → take (i + 1) edges ≡ take i edges ++ e ∷ []
 edges_at edges i e f l = take_more edges i e l ∙ ap (λ y. take i edges ++ y ∷ []) (get_or_from_slice_get edges i e e f)
@@ -156,8 +166,8 @@ leading_more from edges i e o f l h =
 
 pub followed_more : (old mid new : List Gate) (from : List Member) (edges : List Edge) (i : ℕ) (e : Edge) (starts reached more : List (Option Wire)) (o : Option Wire) → IsFollowed old from (take i edges) mid reached → All (λ m. IsWireOf old m.here) from → IsTabled from (length from) starts → o ≡ wire_at starts e.from
     → IsWireOf old e.here → slice_get edges i ≡ Some e → i < length edges → Extends mid new (2 * present o) → IsTableOf new more
-    → ((bits : List Bool) (k : ℕ) → is_here new (wire_at more k) bits ≡ (is_here mid (wire_at reached k) bits || (nat_eq e.to k && (is_here mid o bits && wire_value mid e.here bits)))) → IsFollowed old from (take (i + 1) edges) new more
-followed_more old mid new from edges i e starts reached more o g wf t eo we f l ext w v = record {
+    → ((bits : List Bool) (k : ℕ) → is_here new (wire_at more k) bits ≡ (is_here mid (wire_at reached k) bits || (nat_eq e.to k && (is_here mid o bits && wire_value mid e.here bits)))) → ((k : ℕ) → is_some (wire_at more k) ≡ (is_some (wire_at reached k) || (nat_eq e.to k && is_some o))) → IsFollowed old from (take (i + 1) edges) new more
+followed_more old mid new from edges i e starts reached more o g wf t eo we f l ext w v hs = record {
   extends = (let z : 2 * leading from (take (i + 1) edges) ≡ 2 * leading from (take i edges) + 2 * present o = omega (arith, leading_more from edges i e o f l (ap is_some eo ∙ t.slots e.from ∙ ap (λ s. has_slot s e.from) (take_all (length from) from (omega arith)))) in
       rw z (extends_trans old mid new (2 * leading from (take i edges)) (2 * present o) g.extends ext));
   wires = w;
@@ -171,6 +181,10 @@ followed_more old mid new from edges i e starts reached more o g wf t eo we f l 
       ∙ ap (λ x. is_reached old from (take i edges) k bits || (nat_eq e.to k && (x && wire_value mid e.here bits))) start
       ∙ ap (λ x. is_reached old from (take i edges) k bits || (nat_eq e.to k && (is_in old from e.from bits && x))) edge
       ∙ ap (λ x. is_reached old from (take i edges) k bits || x) (sym (or_false (nat_eq e.to k && (is_in old from e.from bits && wire_value old e.here bits)))) ∙ sym more_reached;
+  slots = λ k.
+      let start : is_some o ≡ has_slot from e.from = ap is_some eo ∙ t.slots e.from ∙ ap (λ s. has_slot s e.from) (take_all (length from) from (omega arith)) in
+      hs k ∙ ap (λ x. x || (nat_eq e.to k && is_some o)) (g.slots k) ∙ ap (λ x. leads_to from (take i edges) k || (nat_eq e.to k && x)) start
+      ∙ ap (λ x. leads_to from (take i edges) k || x) (sym (or_false (nat_eq e.to k && has_slot from e.from))) ∙ sym (ap (λ t. leads_to from t k) (edges_at edges i e f l) ∙ leads_to-append from (take i edges) (e ∷ []) k);
 }
 
 -- ---- the set of a table
@@ -179,7 +193,7 @@ none_less : (n : ℕ) → nat_lt n 0 ≡ false
 none_less n = grind (arith, nat_tests)
 
 pub none_collected : (table : List (Option Wire)) → IsCollected table 0 []
-none_collected table = record { ascending = omega arith; wires = λ gates h. All-nil (λ m. IsWireOf gates m.here); value = λ gates bits slot. sym (ap (λ b. if b then is_here gates (wire_at table slot) bits else false) (none_less slot)) }
+none_collected table = record { ascending = omega arith; wires = λ gates h. All-nil (λ m. IsWireOf gates m.here); value = λ gates bits slot. sym (ap (λ b. if b then is_here gates (wire_at table slot) bits else false) (none_less slot)); slots = λ slot h. absurd cc }
 
 pub collected_more : (table : List (Option Wire)) (n : ℕ) (set more : List Member) (o : Option Wire) → IsCollected table n set → o ≡ wire_at table n → more ≡ set ++ members_at n o → IsCollected table (n + 1) more
 collected_more table n set more o c e em = rw (em, e) (record {
@@ -187,8 +201,14 @@ collected_more table n set more o c e em = rw (em, e) (record {
   wires = λ gates h. All-append (λ m. IsWireOf gates m.here) set (members_at n (wire_at table n)) (c.wires gates h) (member_wires gates n (wire_at table n) (h.wires n));
   value = λ gates bits k. is_in-append gates set (members_at n (wire_at table n)) k bits ∙ ap (λ x. x || is_in gates (members_at n (wire_at table n)) k bits) (c.value gates bits k)
       ∙ ap (λ x. (if nat_lt k n then is_here gates (wire_at table k) bits else false) || x) (is_in-members gates n (wire_at table n) k bits) ∙ by gates bits k (cases_order k n);
+  slots = λ k h. held k (has_slot set k) (nat_eq n k) refl refl (sym (has_slot-append set (members_at n (wire_at table n)) k ∙ ap (λ b. has_slot set k || b) (has_slot-members n (wire_at table n) k)) ∙ h);
 })
   where
+    held : (k : ℕ) (b e : Bool) → has_slot set k ≡ b → nat_eq n k ≡ e → (b || (e && is_some (wire_at table n))) ≡ true → is_some (wire_at table k) ≡ true
+    held k true e eb ee h = c.slots k eb
+    held k false true eb ee h = ap (λ j. is_some (wire_at table j)) (sym (eqb-true n k ee)) ∙ h
+    held k false false eb ee h = absurd cc
+
     less_here : (a b : ℕ) → a < b → nat_lt a b ≡ true
     less_here a b h = grind (arith, nat_tests)
 
@@ -237,7 +257,7 @@ image_value old new from edges reached set f c bits k = c.value new bits k ∙ a
 
 -- ---- what one edge more adds
 
-leading_within : (from : List Member) (edges : List Edge) (n : ℕ) → leading from (take n edges) ≤ leading from edges
+pub leading_within : (from : List Member) (edges : List Edge) (n : ℕ) → leading from (take n edges) ≤ leading from edges
 leading_within from edges n = omega (arith, ap (leading from) (take-append-drop n edges), leading-append from (take n edges) (drop n edges))
 
 pub edge_more : (from : List Member) (edges : List Edge) (i : ℕ) (e : Edge) (starts : List (Option Wire)) (o : Option Wire) → o ≡ wire_at starts e.from → IsTabled from (length from) starts → slice_get edges i ≡ Some e → i < length edges

@@ -4,5 +4,8 @@ pub mod Falsity
 pub mod Following
 pub mod Growing
 pub mod Marks
+pub mod Picking
+pub mod Reached
+pub mod Rows
 pub mod Staying
 pub mod Worked

@@ -1,12 +1,12 @@
 -- How far an image has come.
-use Rattle.std.specs.Prelude.{◌≡◌, ℕ, ◌*◌, Bool, false, List, take, slice_index_or, Option, Some, None, IfSome, is_some, nat_lt, if◌then◌else◌}
+use Rattle.std.specs.Prelude.{◌≡◌, ℕ, ◌*◌, Bool, true, false, List, take, slice_index_or, Option, Some, None, IfSome, is_some, nat_lt, if◌then◌else◌}
 use Rattle.std.specs.List.{All}
 use Rattle.bool_circuit.specs.declared.gate.Wire.{Wire}
 use Rattle.bool_circuit.specs.declared.gate.Gate.{Gate}
 use Rattle.bool_circuit.specs.Circuit.{IsWireOf, Extends}
 use Rattle.set_bits.specs.declared.sets.Member.{Member}
 use Rattle.set_bits.specs.declared.layout.Edge.{Edge}
-use Rattle.set_bits.specs.Sets.{is_in, is_here, is_reached, has_slot, leading}
+use Rattle.set_bits.specs.Sets.{is_in, is_here, is_reached, has_slot, leads_to, leading}
 use Rattle.set_bits.specs.Merging.{AscendBetween}
 
 -- the wire of a slot in a table, which may be missing
@@ -28,6 +28,7 @@ pub record IsCollected (table : List (Option Wire)) (n : ℕ) (set : List Member
   pub ascending : AscendBetween 0 n set
   pub wires : (gates : List Gate) → IsTableOf gates table → All (λ m. IsWireOf gates m.here) set
   pub value : (gates : List Gate) (bits : List Bool) (slot : ℕ) → is_in gates set slot bits ≡ (if nat_lt slot n then is_here gates (wire_at table slot) bits else false)
+  pub slots : (slot : ℕ) → has_slot set slot ≡ true → is_some (wire_at table slot) ≡ true
 
 abbrev pub present : Option Wire → ℕ
 present None = 0
@@ -38,3 +39,4 @@ pub record IsFollowed (old : List Gate) (from : List Member) (edges : List Edge)
   pub extends : Extends old new (2 * leading from edges)
   pub wires : IsTableOf new reached
   pub value : (bits : List Bool) (slot : ℕ) → is_here new (wire_at reached slot) bits ≡ is_reached old from edges slot bits
+  pub slots : (slot : ℕ) → is_some (wire_at reached slot) ≡ leads_to from edges slot

@@ -1,5 +1,5 @@
 //! Images of sets along edges.
-ghost use Rattle.std.specs.Prelude.{◌≡◌, ℕ, ◌+◌, ◌*◌, ◌≤◌, Bool, true, ◌||◌, ◌&&◌, length, nat_eq, if◌then◌else◌, IfOk, IfSome, OnOk, OnErr, All, List as Items, Some};
+ghost use Rattle.std.specs.Prelude.{◌≡◌, ℕ, ◌+◌, ◌*◌, ◌≤◌, Bool, true, ◌||◌, ◌&&◌, length, nat_eq, if◌then◌else◌, IfOk, IfSome, is_some, OnOk, OnErr, All, List as Items, Some};
 ghost use Rattle.bool_circuit.specs.Circuit.{wire_value, IsWireOf, Extends};
 ghost use Rattle.bool_circuit.specs.declared.circuit.TheConstants.{MOST_WIRES};
 ghost use Rattle.set_bits.specs.Sets.{is_in, is_here, is_reached, has_slot, leads_to, leading, slots_into, AscendFrom, AreDistinct, IsSetOf};
@@ -96,6 +96,7 @@ fn reach(
     ensures wires { OnOk result (IsTableOf circuit.new reached.new.items) }
     ensures few { OnOk result (length reached.old.items ≤ MOST_SLOTS → length reached.new.items ≤ MOST_SLOTS) }
     ensures value { OnOk result ((bits : Items Bool) (k : ℕ) → is_here circuit.new (wire_at reached.new.items k) bits ≡ (is_here circuit.old (wire_at reached.old.items k) bits || (nat_eq edge.to k && (is_here circuit.old here bits && wire_value circuit.old edge.here bits)))) }
+    ensures some { OnOk result ((k : ℕ) → is_some (wire_at reached.new.items k) ≡ (is_some (wire_at reached.old.items k) || (nat_eq edge.to k && is_some here))) }
     ensures extends { Extends circuit.old circuit.new (2 * present here) }
 {
     match here {
