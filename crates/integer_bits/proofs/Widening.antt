@@ -10,7 +10,7 @@ use Rattle.bool_circuit.specs.declared.gate.Gate.{Gate}
 use Rattle.bool_circuit.specs.Circuit.{wire_value, wire_values, AreWiresOf, Extends}
 use Rattle.bool_circuit.proofs.Extending.{wires_stay, wire_values_stay}
 use Rattle.integer_bits.proofs.Congruent.{congruent_fits, congruent_add, congruent_trans, congruent_sym, congruent_same, congruent_rest, natural_congruent, resized_congruent, integer_fits, pow_half}
-use Rattle.integer_bits.proofs.Resizing.{length_resized, values_resized, length_values, fits_wider, integer_of_resized_wires}
+use Rattle.integer_bits.proofs.Resizing.{length_resized, values_resized, length_values, fits_wider}
 use Rattle.integer_bits.proofs.Ripple.{carry_small}
 use Rattle.integer_bits.specs.Numbers.{bit, natural_of, integer_of, integer_at, FitsBits, IsCongruent, IsNumber, StandsFor, resized}
 use Rattle.integer_bits.specs.Steps.{carry_at, IsSumSoFar, IsNegativeSoFar, IsNarrowed}

@@ -1,10 +1,10 @@
 -- The choice between two sets.
-use Rattle.std.proofs.Common.{◌≡◌, ℕ, ◌+◌, ◌*◌, ◌<◌, ◌≤◌, Bool, true, false, not, ◌&&◌, ◌||◌, if◌then◌else◌, List, [], ◌∷◌, ◌++◌, length, Option, Some, None, refl, sym, ap, ◌∙◌, arith}
+use Rattle.std.proofs.Common.{◌≡◌, ℕ, ◌+◌, ◌*◌, ◌<◌, ◌≤◌, Bool, true, false, not, ◌&&◌, ◌||◌, if◌then◌else◌, List, [], ◌++◌, length, Option, Some, None, refl, sym, ap, ◌∙◌, arith}
 use Rattle.std.specs.Prelude.{is_some, IfSome}
 use Rattle.bool_circuit.specs.declared.gate.Wire.{Wire}
 use Rattle.bool_circuit.specs.declared.gate.Gate.{Gate}
 use Rattle.bool_circuit.specs.Circuit.{wire_value, IsWireOf, Extends}
-use Rattle.bool_circuit.proofs.Extending.{extends_trans, extends_within}
+use Rattle.bool_circuit.proofs.Extending.{extends_within}
 use Rattle.set_bits.specs.declared.sets.Member.{Member}
 use Rattle.set_bits.specs.Sets.{is_in, is_here, IsSetOf}
 use Rattle.set_bits.specs.Merging.{lowest_slot, taken, others, members_at, IsChosen, chosen_by}

@@ -1,5 +1,5 @@
 -- Which slots an image may have, and what is made of two sets at a slot, on worked rows: a set of the slots 1 and 3, edges 1 -> 2 and 0 -> 4.
-use Rattle.std.proofs.Common.{◌≡◌, ℕ, true, false, List, [], ◌∷◌, refl}
+use Rattle.std.proofs.Common.{◌≡◌, true, false, List, [], ◌∷◌, refl}
 use Rattle.set_bits.specs.declared.sets.Member.{Member}
 use Rattle.set_bits.specs.declared.sets.Operation.TheVariants.{Meet, Minus, Differ}
 use Rattle.set_bits.specs.declared.layout.Edge.{Edge}

@@ -1,9 +1,9 @@
-use Rattle.std.proofs.Common.{◌≡◌, ◌+◌, ◌*◌, ◌||◌, not, length, sym, ap, ◌∙◌, arith}
+use Rattle.std.proofs.Common.{◌+◌, ◌*◌, ◌||◌, not, length, sym, ap, ◌∙◌, arith}
 use Rattle.bool_circuit.proofs.Extending.{extends_trans, extends_within}
 use Rattle.set_bits.specs.Merging.{chosen_by}
 use Rattle.set_bits.specs.Reaching.{present}
 use Rattle.set_bits.proofs.Combining.{merged_set, taken_stays}
-use Rattle.set_bits.proofs.Picking.{picked_more, picked_value, slot_room}
+use Rattle.set_bits.proofs.Picking.{picked_more, slot_room}
 use Rattle.set_bits.proofs.sets.choose_slots.Goals as goal
 
 pub choose_wires-requires-clause-negated : goal.choose_wires-requires-clause-negated
