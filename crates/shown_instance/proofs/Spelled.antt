@@ -21,6 +21,7 @@ use Rattle.set_bits.specs.declared.layout.Layout.{Layout}
 use Rattle.set_bits.specs.Fitting.{Fits, slot, value_width}
 use Rattle.set_bits.specs.Showing.{Shows, ties, target_in, is_value, integer_in, integer_target_in, target_integer}
 use Rattle.shown_instance.specs.Packed.{IsPacked, are_numbers}
+use Rattle.shown_instance.specs.Shaped.{HasBits}
 use Rattle.shown_instance.proofs.Order.{both}
 use Rattle.shown_instance.proofs.Packing.{packed_shows, shaped_in_range}
 use Rattle.shown_instance.proofs.Widths.{width_between}
@@ -78,8 +79,7 @@ pairs_made t f (x ∷ xs) h = ap (λ b. b && each_pair t xs (map f xs)) (h 0 x (
 
 -- each instance has bits that show it, where integers that fit have spellings
 pub bits_there : ((w : ℕ) (z : ℤ) → length (spelled w z) ≡ w) → ((w : ℕ) (z : ℤ) → 0 < w → FitsBits w z → integer_of (spelled w z) ≡ z)
-    → (clafers : List Clafer) (scopes : Scopes) (layout : Layout) (entries : List Entry) → Fits clafers scopes layout → neg_ℤ (pos (2 ^ 63)) ≤ℤ scopes.low → scopes.high <ℤ pos (2 ^ 63)
-    → is_within clafers scopes entries ≡ true → is_ordered entries ≡ true → is_tree clafers entries ≡ true → has_shape clafers scopes entries ≡ true → (bits : List Bool) × Shows clafers scopes layout bits entries
+    → (clafers : List Clafer) (scopes : Scopes) (layout : Layout) (entries : List Entry) → HasBits clafers scopes layout entries
 unfolding number_bits
 bits_there size spells clafers scopes layout entries fit low high within ordered tree shape = (bits, packed_shows clafers scopes layout bits entries fit within ordered tree shape packed)
   where

@@ -1,6 +1,6 @@
 //! What bits that show an instance say of it.
 
-ghost use Rattle.std.specs.Prelude.{◌≡◌, ◌^◌, ◌≤ℤ◌, ◌<ℤ◌, pos, neg_ℤ, Bool, List, IsTrue, length, map, nat_lt};
+ghost use Rattle.std.specs.Prelude.{◌≡◌, Bool, List, IsTrue, length, map, nat_lt};
 ghost use Rattle.std.specs.List.{list_all};
 ghost use Rattle.clf_tree.specs.declared.model.Clafer.{Clafer};
 ghost use Rattle.clf_tree.specs.declared.scopes.Scopes.{Scopes};
@@ -11,6 +11,7 @@ ghost use Rattle.set_bits.specs.Showing.{Shows};
 ghost use Rattle.clf_tree.specs.Nodes.{entry_of, is_in_range, is_within, is_ordered, is_tree};
 ghost use Rattle.clf_tree.specs.Shape.{has_shape};
 ghost use Rattle.shown_instance.specs.Packed.{IsPacked, aligned, is_between};
+ghost use Rattle.shown_instance.specs.Shaped.{HasBits};
 ghost use Rattle.shown_instance.specs.Shown.{shown};
 
 use integer_bits::what_fits_is_kept;
@@ -50,7 +51,7 @@ pub fn one_list_of_bits_shows()
 /// Some bits show each instance within the scopes that is ordered, a tree and of the right shape. The integers of the range have at most 64
 /// bits.
 pub fn each_instance_has_bits()
-    ensures { (clafers : List Clafer) (scopes : Scopes) (layout : Layout) (entries : List Entry) → Fits clafers scopes layout → neg_ℤ (pos (2 ^ 63)) ≤ℤ scopes.low → scopes.high <ℤ pos (2 ^ 63) → IsTrue (is_within clafers scopes entries) → IsTrue (is_ordered entries) → IsTrue (is_tree clafers entries) → IsTrue (has_shape clafers scopes entries) → (bits : List Bool) × Shows clafers scopes layout bits entries }
+    ensures { (clafers : List Clafer) (scopes : Scopes) (layout : Layout) (entries : List Entry) → HasBits clafers scopes layout entries }
 {
     what_fits_is_kept();
 }
