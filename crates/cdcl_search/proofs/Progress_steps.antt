@@ -199,9 +199,10 @@ all_satisfied s values w a v = All-from_get_or (Satisfies (assignment_of values)
 -- codes below twice a number are of variables below it
 codes_below : (codes : List ℕ) (n : ℕ) → ((j : ℕ) → j < length codes → get_or codes j 0 < 2 * n) → HasVariablesBelow n (clause_of codes)
 codes_below codes n below = All-from_get_or (λ l. variable_of l < n) (clause_of codes) (record { code = 0 }) (λ j h.
-    let k : j < length codes = rw (length-map codes (λ (c : ℕ). record { code = c })) at h in
+    let literal : ℕ → Literal = λ c. record { code = c } in
+    let k : j < length codes = rw (length-map codes literal) at h in
     let o : Literal = record { code = 0 } in
-    let e : get_or (clause_of codes) j o ≡ record { code = get_or codes j 0 } = get_or-map (λ (c : ℕ). record { code = c }) codes j 0 o k in
+    let e : get_or (clause_of codes) j o ≡ record { code = get_or codes j 0 } = get_or-map literal codes j 0 o k in
     let b = below j k in
     rw e (omega (arith, b)))
 
