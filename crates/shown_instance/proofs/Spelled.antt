@@ -1,6 +1,6 @@
 -- The bits of an instance, which are there for each one.
-use Rattle.std.proofs.Common.{◌≡◌, ℕ, zero, suc, ◌+◌, ◌<◌, ◌^◌, Bool, true, false, cond, ◌&&◌, List, [], ◌∷◌, ◌++◌, length, map, get_or, replicate, Option, Some, None, refl, sym, ap, ◌∙◌, subst, arith}
-use Rattle.std.specs.Prelude.{◌==◌, ℤ, pos, neg_ℤ, ◌≤ℤ◌, ◌<ℤ◌, int_le, is_some, not}
+use Rattle.std.proofs.Common.{◌≡◌, ℕ, zero, suc, ◌<◌, Bool, true, false, cond, ◌&&◌, List, [], ◌∷◌, ◌++◌, length, map, get_or, replicate, Option, Some, None, refl, sym, ap, ◌∙◌, subst, arith}
+use Rattle.std.specs.Prelude.{◌==◌, ℤ, ◌≤ℤ◌, int_le, is_some, not}
 use Rattle.std.specs.Ordering.{int_eq}
 use Rattle.std.specs.Option.{option_map_or, option_and_then}
 use Rattle.std.specs.List.{list_all, flat_map}
@@ -13,14 +13,13 @@ use Rattle.clf_tree.specs.declared.instance.Target.{Target}
 use Rattle.clf_tree.specs.declared.instance.Target.TheVariants as target
 use Rattle.clf_tree.specs.declared.scopes.Scopes.{Scopes}
 use Rattle.clf_tree.specs.Lists.{each_pair}
-use Rattle.clf_tree.specs.Nodes.{same_node, entry_of, has_node, nodes_of, parent_in, fits_range, is_within, is_in_range, is_ordered, is_tree}
-use Rattle.clf_tree.specs.Shape.{has_shape}
+use Rattle.clf_tree.specs.Nodes.{same_node, entry_of, has_node, nodes_of, parent_in, fits_range, is_in_range}
 use Rattle.integer_bits.specs.Numbers.{spelled, integer_of, FitsBits}
 use Rattle.set_bits.specs.declared.layout.SlotBits.{SlotBits}
 use Rattle.set_bits.specs.declared.layout.Layout.{Layout}
-use Rattle.set_bits.specs.Fitting.{Fits, slot, value_width}
-use Rattle.set_bits.specs.Showing.{Shows, ties, target_in, is_value, integer_in, integer_target_in, target_integer}
-use Rattle.shown_instance.specs.Packed.{IsPacked, are_numbers}
+use Rattle.set_bits.specs.Fitting.{slot, value_width}
+use Rattle.set_bits.specs.Showing.{ties, target_in, is_value, integer_in, integer_target_in, target_integer}
+use Rattle.shown_instance.specs.Packed.{IsPacked}
 use Rattle.shown_instance.specs.Shaped.{HasBits}
 use Rattle.shown_instance.proofs.Order.{both}
 use Rattle.shown_instance.proofs.Packing.{packed_shows, shaped_in_range}
