@@ -1,18 +1,15 @@
 -- One slot, edge or integer more in the bits of an instance.
 use Rattle.std.proofs.Common.{◌≡◌, ℕ, zero, suc, ◌+◌, ◌<◌, ◌≤◌, Bool, true, false, cond, ◌&&◌, ◌||◌, List, [], ◌∷◌, ◌++◌, length, map, take, drop, get_or, Option, Some, None, refl, sym, ap, ◌∙◌, subst, arith, append_assoc, append-nil}
-use Rattle.std.specs.Prelude.{◌==◌, ◌≤ℤ◌, slice_get, nat_lt, is_some, ℤ, int_le, IfSome}
+use Rattle.std.specs.Prelude.{◌==◌, slice_get, nat_lt, is_some, ℤ, int_le, IfSome}
 use Rattle.std.specs.Option.{option_map, option_map_or, option_and_then}
 use Rattle.std.specs.List.{All, list_all, flat_map}
 use Rattle.std.proofs.lemmas.Bool.{true≢false}
 use Rattle.std.proofs.lemmas.Bool.Decides.{nat_tests}
 use Rattle.std.proofs.lemmas.Grind.{flat_map-append}
 use Rattle.std.proofs.lemmas.Option.{get_or_from_slice_get, slice_get-get_or, slice_get_within, slice_get-map}
-use Rattle.std.proofs.lemmas.Int.{ints}
 use Rattle.std.proofs.lemmas.List.{length-map, map-append, take_more, take_all}
 use Rattle.clf_tree.specs.declared.instance.Node.{Node}
 use Rattle.clf_tree.specs.declared.instance.Entry.{Entry}
-use Rattle.clf_tree.specs.declared.instance.Target.{Target}
-use Rattle.clf_tree.specs.declared.instance.Target.TheVariants as target
 use Rattle.clf_tree.specs.declared.model.Clafer.{Clafer}
 use Rattle.clf_tree.specs.declared.scopes.Scopes.{Scopes}
 use Rattle.clf_tree.specs.Lists.{each_pair}
@@ -23,7 +20,7 @@ use Rattle.set_bits.specs.declared.layout.Edge.{Edge}
 use Rattle.set_bits.specs.declared.layout.SlotBits.{SlotBits}
 use Rattle.set_bits.specs.declared.layout.Layout.{Layout}
 use Rattle.set_bits.specs.Fitting.{Fits, slot}
-use Rattle.set_bits.specs.Showing.{is_tied, ties, target_in, is_value, integer_in, integer_target_in, target_integer}
+use Rattle.set_bits.specs.Showing.{is_tied, ties, target_in, is_value, integer_target_in, target_integer}
 use Rattle.shown_instance.specs.Packed.{IsPacked, aligned, is_between}
 use Rattle.shown_instance.proofs.Spelled.{entry_passes, ranged, from_le}
 use Rattle.instance_decoder.specs.declared.packing.Tie.{Tie}

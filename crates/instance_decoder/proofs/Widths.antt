@@ -1,6 +1,6 @@
 -- The width of a range of integers of 64 bits.
-use Rattle.std.proofs.Common.{◌≡◌, ℕ, zero, suc, ◌+◌, ◌-◌, ◌^◌, ◌<◌, ◌≤◌, ◌&&◌, Bool, true, false, cond, Some, refl, ap, sym, ◌∙◌, arith, ◌≢◌, ◌⊎◌, inl, inr}
-use Rattle.std.specs.Prelude.{◌==◌, ℤ, negsuc, pos, neg_ℤ, ◌+ℤ◌, ◌≤ℤ◌, ◌<ℤ◌, int_le, int_lt}
+use Rattle.std.proofs.Common.{◌≡◌, ℕ, zero, suc, ◌+◌, ◌^◌, ◌<◌, ◌≤◌, ◌&&◌, Bool, true, false, cond, Some, refl, ap, sym, ◌∙◌, arith, ◌≢◌, ◌⊎◌, inl, inr}
+use Rattle.std.specs.Prelude.{◌==◌, ℤ, negsuc, pos, neg_ℤ, ◌≤ℤ◌, ◌<ℤ◌, int_le, int_lt}
 use Rattle.integer_bits.specs.Numbers.{FitsBits}
 use Rattle.std.specs.Option.{option_map_or}
 use Rattle.std.specs.List.{find, range_with_len}
