@@ -1,5 +1,5 @@
 -- A sound expression means what bits that show a tree of the right shape tell.
-use Rattle.std.proofs.Common.{◌≡◌, ◌≢◌, ℕ, ◌+◌, ◌*◌, Bool, true, false, not, cond, ◌&&◌, ◌||◌, List, [], ◌∷◌, ◌++◌, map, length, refl, sym, ap, ◌∙◌, ℤ, pos}
+use Rattle.std.proofs.Common.{◌≡◌, ℕ, Bool, true, false, not, cond, ◌&&◌, ◌||◌, List, [], ◌∷◌, ◌++◌, map, length, refl, sym, ap, ◌∙◌, ℤ, pos}
 use Rattle.std.specs.Prelude.{◌==◌, nat_eq, nat_lt, nat_le, neg_ℤ, ◌+ℤ◌, ◌*ℤ◌, int_lt, replicate}
 use Rattle.std.specs.Ordering.{int_eq}
 use Rattle.std.specs.List.{filter, list_all}
