@@ -7,7 +7,7 @@ use Rattle.std.proofs.lemmas.List.Elements.{All-get_or, All-from_get_or}
 use Rattle.std.proofs.lemmas.List.Quantifiers.{Any-push}
 use Rattle.clause_store.specs.declared.clause.Literal.{Literal}
 use Rattle.clause_store.specs.declared.derivation.Chain.{Chain}
-use Rattle.clause_store.specs.Literals.{literals_of, HasVariablesBelow}
+use Rattle.clause_store.specs.Literals.{literals_of, variable_of, HasVariablesBelow}
 use Rattle.clause_store.specs.Satisfaction.{value_at, Satisfies, SatisfiesAll}
 use Rattle.clause_store.specs.Store.{clause_at}
 use Rattle.clause_store.specs.Resolution.{known_clauses, Refutes}
@@ -195,3 +195,24 @@ all_satisfied s values w a v = All-from_get_or (Satisfies (assignment_of values)
     let low : i < s.given = omega (arith, m) in
     let e : get_or (given_clauses s) i [] ≡ clause_of (get_or s.arena i []) = get_or-map clause_of front i [] [] m ∙ ap clause_of (get_or-take s.given s.arena i [] low) in
     rw e (clause_satisfied s values i w a v (omega (arith, w.given))))
+
+-- codes below twice a number are of variables below it
+codes_below : (codes : List ℕ) (n : ℕ) → ((j : ℕ) → j < length codes → get_or codes j 0 < 2 * n) → HasVariablesBelow n (clause_of codes)
+codes_below codes n below = All-from_get_or (λ l. variable_of l < n) (clause_of codes) (record { code = 0 }) (λ j h.
+    let literal : ℕ → Literal = λ c. record { code = c } in
+    let k : j < length codes = rw (length-map codes literal) at h in
+    let o : Literal = record { code = 0 } in
+    let e : get_or (clause_of codes) j o ≡ record { code = get_or codes j 0 } = get_or-map literal codes j 0 o k in
+    let b = below j k in
+    rw e (omega (arith, b)))
+
+-- the given clauses are of the search's variables
+pub given_within : (s : Engine) (n : ℕ) → IsWhole s → n ≡ length s.trail.literals.items → All (HasVariablesBelow n) (given_clauses s)
+given_within s n w many = All-from_get_or (HasVariablesBelow n) (given_clauses s) [] (λ i h.
+    let front = take s.given s.arena in
+    let short = length-take s.given s.arena in
+    let m : i < length front = rw (length-map front clause_of) at h in
+    let low : i < s.given = omega (arith, m) in
+    let there : i < length s.arena = omega (arith, low, w.given) in
+    let e : get_or (given_clauses s) i [] ≡ clause_of (get_or s.arena i []) = get_or-map clause_of front i [] [] m ∙ ap clause_of (get_or-take s.given s.arena i [] low) in
+    rw e (codes_below (get_or s.arena i []) n (λ j k. let b = w.state.within i there j k in omega (arith, b, many))))

@@ -78,10 +78,11 @@ impl Search {
         }
     }
 
-    /// The values of the variables that the last run found, which satisfy the given clauses.
+    /// The values that the last run found, one for each variable of the search. They satisfy the given clauses.
     pub fn assignment(&self, alloc: Global) -> Result<List<bool>, NoMemory>
         requires { self.now.is_satisfied ≡ true }
-        ensures { IfOk result (λ values. SatisfiesAll (assignment_of values) self.now.given) }
+        ensures satisfies { IfOk result (λ values. SatisfiesAll (assignment_of values) self.now.given) }
+        ensures all { IfOk result (λ values. All (HasVariablesBelow (length values)) self.now.given) }
     {
         let variables = self.engine.trail.literals.len();
         let mut values = Vec::new(alloc);

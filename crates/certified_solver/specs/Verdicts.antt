@@ -36,3 +36,9 @@ abbrev pub IsDecided : Verdict → Type 0
 IsDecided (Yes values) = Unit {0}
 IsDecided (No refutation) = Unit {0}
 IsDecided (Spent derivation) = ⊥
+
+-- the answer Yes has a value of each variable of the clauses
+abbrev pub HasAllValues : List (List Literal) → Verdict → Type 0
+HasAllValues given (Yes values) = All (HasVariablesBelow (length values)) given
+HasAllValues given (No refutation) = Unit {0}
+HasAllValues given (Spent derivation) = Unit {0}

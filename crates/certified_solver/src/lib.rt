@@ -9,7 +9,7 @@ mod tests;
 ghost use Rattle.std.specs.Prelude.{ℕ, ◌≡◌, ◌+◌, ◌<◌, ◌≤◌, ◌^◌, All, length, IfOk};
 ghost use Rattle.clause_store.specs.Literals.{HasVariablesBelow};
 ghost use Rattle.clause_store.specs.Resolution.{Refutes};
-ghost use Rattle.certified_solver.specs.Verdicts.{IsVerdict, IsDecided, IsRefutation};
+ghost use Rattle.certified_solver.specs.Verdicts.{IsVerdict, IsDecided, IsRefutation, HasAllValues};
 
 use cdcl_search::{Ended, Search};
 use clause_store::{Clauses, Derivation};
@@ -21,7 +21,7 @@ use std::alloc::Global;
 /// Whether clauses can be satisfied.
 #[derive(Drop)]
 pub enum Verdict {
-    /// These values of the variables satisfy the clauses.
+    /// These values of the variables, one for each, satisfy the clauses.
     Yes(List<bool>),
     /// No values do: this refutes the clauses.
     No(Refutation),
@@ -42,6 +42,7 @@ pub fn decide(
     requires room { length clauses.now.clauses + budget < 2147483640 }
     requires few { All (HasVariablesBelow 2147483647) clauses.now.clauses }
     ensures verdict { IfOk result (λ verdict. IsVerdict clauses.now.clauses budget verdict) }
+    ensures values { IfOk result (HasAllValues clauses.now.clauses) }
     ensures enough { IfOk result (λ verdict. (n : ℕ) → All (HasVariablesBelow n) clauses.now.clauses → 3 ^ n ≤ budget → IsDecided verdict) }
 {
     let mut search = Search::open(alloc, clauses)?;

@@ -47,4 +47,11 @@ impl Refutation {
     {
         &self.derivation
     }
+
+    /// The derivation that was accepted, without a copy. It takes no memory.
+    pub fn into_derivation(self) -> Derivation
+        ensures { result.chains ≡ self }
+    {
+        self.derivation
+    }
 }

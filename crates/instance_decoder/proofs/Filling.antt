@@ -1,18 +1,15 @@
 -- One slot, edge or integer more in the bits of an instance.
 use Rattle.std.proofs.Common.{◌≡◌, ℕ, zero, suc, ◌+◌, ◌<◌, ◌≤◌, Bool, true, false, cond, ◌&&◌, ◌||◌, List, [], ◌∷◌, ◌++◌, length, map, take, drop, get_or, Option, Some, None, refl, sym, ap, ◌∙◌, subst, arith, append_assoc, append-nil}
-use Rattle.std.specs.Prelude.{◌==◌, ◌≤ℤ◌, slice_get, nat_lt, is_some, ℤ, int_le, IfSome}
+use Rattle.std.specs.Prelude.{◌==◌, slice_get, nat_lt, is_some, ℤ, int_le, IfSome}
 use Rattle.std.specs.Option.{option_map, option_map_or, option_and_then}
 use Rattle.std.specs.List.{All, list_all, flat_map}
 use Rattle.std.proofs.lemmas.Bool.{true≢false}
 use Rattle.std.proofs.lemmas.Bool.Decides.{nat_tests}
 use Rattle.std.proofs.lemmas.Grind.{flat_map-append}
 use Rattle.std.proofs.lemmas.Option.{get_or_from_slice_get, slice_get-get_or, slice_get_within, slice_get-map}
-use Rattle.std.proofs.lemmas.Int.{ints}
 use Rattle.std.proofs.lemmas.List.{length-map, map-append, take_more, take_all}
 use Rattle.clf_tree.specs.declared.instance.Node.{Node}
 use Rattle.clf_tree.specs.declared.instance.Entry.{Entry}
-use Rattle.clf_tree.specs.declared.instance.Target.{Target}
-use Rattle.clf_tree.specs.declared.instance.Target.TheVariants as target
 use Rattle.clf_tree.specs.declared.model.Clafer.{Clafer}
 use Rattle.clf_tree.specs.declared.scopes.Scopes.{Scopes}
 use Rattle.clf_tree.specs.Lists.{each_pair}
@@ -23,8 +20,9 @@ use Rattle.set_bits.specs.declared.layout.Edge.{Edge}
 use Rattle.set_bits.specs.declared.layout.SlotBits.{SlotBits}
 use Rattle.set_bits.specs.declared.layout.Layout.{Layout}
 use Rattle.set_bits.specs.Fitting.{Fits, slot}
-use Rattle.set_bits.specs.Showing.{is_tied, ties, target_in, is_value, integer_in, integer_target_in, target_integer}
+use Rattle.set_bits.specs.Showing.{is_tied, ties, target_in, is_value, integer_target_in, target_integer}
 use Rattle.shown_instance.specs.Packed.{IsPacked, aligned, is_between}
+use Rattle.shown_instance.proofs.Spelled.{entry_passes, ranged, from_le}
 use Rattle.instance_decoder.specs.declared.packing.Tie.{Tie}
 use Rattle.instance_decoder.specs.declared.packing.Tie.TheVariants.{Parent, Target as Referred}
 use Rattle.instance_decoder.specs.Packing.{next_of, taken, end_at, end_in, integer_in_table, Adds, AddsNumbers}
@@ -194,15 +192,6 @@ whole_of entries slots table b0 b1 b2 b3 b4 parents targets numbers t e0 e1 e2 e
     e4 ∙ ap (λ bs. bs ++ numbers) (e3 ∙ ap (λ bs. bs ++ targets) (e2 ∙ ap (λ bs. bs ++ parents) first))
     ∙ append_assoc (map (has_node (nodes_of entries)) slots ++ parents) targets numbers ∙ append_assoc (map (has_node (nodes_of entries)) slots) parents (targets ++ numbers)
 
--- what a test says of all entries it says of the one that is found
-pub entry_passes : (p : Entry → Bool) (es : List Entry) (n : Node) (e : Entry) → list_all p es ≡ true → entry_of es n ≡ Some e → p e ≡ true
-entry_passes p [] n e a f = absurd (true≢false (sym (ap is_some f)))
-entry_passes p (x ∷ xs) n e a f = by (same_node n x.node) refl (entry_passes p xs n e (both_parts (p x) (list_all p xs) a).1)
-  where
-    by : (b : Bool) → same_node n x.node ≡ b → (entry_of xs n ≡ Some e → p e ≡ true) → p e ≡ true
-    by true s rest = ap p (sym (some_same x e (sym (ap (λ b. cond b (Some x) (entry_of xs n)) s) ∙ f))) ∙ (both_parts (p x) (list_all p xs) a).0
-    by false s rest = rest (sym (ap (λ b. cond b (Some x) (entry_of xs n)) s) ∙ f)
-
 pub slot_in : (slots : List Node) (values : List SlotBits) (i : ℕ) (v : SlotBits) → list_all (λ u. nat_lt u.slot (length slots)) values ≡ true → slice_get values i ≡ Some v → v.slot < length slots
 slot_in slots values i v a at = lt_of v.slot (length slots) (pass_at (λ (u : SlotBits). nat_lt u.slot (length slots)) values i v a at)
 
@@ -222,15 +211,6 @@ if_some P (Some z) h = h z refl
 pub told_integer : (table : List (Option Entry)) (i : ℕ) (entry : Option Entry) (integer : Option ℤ) (z : ℤ) → slice_get table i ≡ Some entry → integer ≡ option_and_then target_integer entry → integer ≡ Some z → integer_in_table table i ≡ Some z
 told_integer table i entry integer z there is e = ap (option_and_then target_integer) (get_or_from_slice_get table i entry None there) ∙ sym is ∙ e
 
-ranged : (scopes : Scopes) (x : Entry) (z : ℤ) → option_map_or (fits_range scopes) x.target true ≡ true → target_integer x ≡ Some z → (int_le scopes.low z && int_le z scopes.high) ≡ true
-ranged scopes x z p e = by x.target refl
-  where
-    by : (t : Option Target) → x.target ≡ t → (int_le scopes.low z && int_le z scopes.high) ≡ true
-    by None s = absurd (true≢false (sym (ap is_some (sym (ap (option_and_then integer_in) s) ∙ e))))
-    by (Some (target.Node n)) s = absurd (true≢false (sym (ap is_some (sym (ap (option_and_then integer_in) s) ∙ e))))
-    by (Some (target.Int y)) s =
-        ap (λ w. int_le scopes.low w && int_le w scopes.high) (sym (some_same y z (sym (ap (option_and_then integer_in) s) ∙ e))) ∙ sym (ap (λ t. option_map_or (fits_range scopes) t true) s) ∙ p
-
 integer_ranges : (scopes : Scopes) (entries : List Entry) (slots : List Node) (table : List (Option Entry)) (i : ℕ) (z : ℤ) → table ≡ map (entry_of entries) slots → is_in_range scopes entries ≡ true → integer_in_table table i ≡ Some z
     → i < length table → (int_le scopes.low z && int_le z scopes.high) ≡ true
 integer_ranges scopes entries slots table i z t r e l = by (get_or table i None) refl (slice_get-get_or table i None l)
@@ -239,9 +219,6 @@ integer_ranges scopes entries slots table i z t r e l = by (get_or table i None)
     by None g s = absurd (true≢false (sym (ap is_some (sym (ap (option_and_then target_integer) g) ∙ e))))
     by (Some x) g s =
         ranged scopes x z (entry_passes (λ (y : Entry). option_map_or (fits_range scopes) y.target true) entries (slot slots i) x r (sym (table_at entries slots table i (Some x) t (s ∙ ap Some g)))) (sym (ap (option_and_then target_integer) g) ∙ e)
-
-from_le : (a b : ℤ) → int_le a b ≡ true → a ≤ℤ b
-from_le a b h = grind (arith, ints)
 
 in_width : (low high z : ℤ) → SFits w64 low → SFits w64 high → (int_le low z && int_le z high) ≡ true → FitsBits (width (record { low = low; high = high })) z
 in_width low high z f g h =

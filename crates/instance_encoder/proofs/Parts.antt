@@ -25,13 +25,13 @@ use Rattle.shape_encoder.specs.Counting.{bounds_room, bounds_cost}
 use Rattle.shape_encoder.specs.Comparing.{sets_cost, pairs_sets_cost, slots_cost, singles_cost, values_cost}
 use Rattle.shape_encoder.specs.Reading.{consistent_cost}
 use Rattle.shape_encoder.specs.Placing.{placed_cost}
-use Rattle.instance_encoder.specs.Shaping.{rules_cost, shape_cost}
+use Rattle.instance_encoder.specs.Shaping.{rules_cost, shape_cost, slots_room}
 use Rattle.instance_encoder.proofs.Totals.{sum-each, sum-add, sum-times, below-less}
 use Rattle.instance_encoder.proofs.Slotted.{by_clafers, regrouped}
 use Rattle.instance_encoder.proofs.Tied.{reach}
 use Rattle.instance_encoder.proofs.Roomed.{abstract_none, targets_are}
 use Rattle.instance_encoder.proofs.Widened.{range_same, some_width}
-use Rattle.instance_encoder.proofs.LinearParts.{parent_edges, target_edges, integers, slots_are, inputs_few, consistent_few, placed_parents_few, placed_targets_few}
+use Rattle.instance_encoder.proofs.LinearParts.{parent_edges, parents_few, target_edges, integers, slots_are, inputs_few, consistent_few, placed_parents_few, placed_targets_few}
 use Rattle.instance_encoder.proofs.BoundParts.{times_share, bounds_few}
 use Rattle.instance_encoder.proofs.SetParts.{twin_share, equal_share, singles_few, nested_few, values_few}
 
@@ -212,15 +212,15 @@ module _ (clafers : List Clafer) (scopes : Scopes) where
 
 -- ---- the sum of the parts
 
--- with n slots, p and t edges, i integers of w bits, x for top-level, y for nested clafers and z for integers that have to differ
-rules_sum : (n p t i w x y z bounds pairs_y pairs_z pairs inputs consistent parents targets sets : ℕ) → 1 ≤ n → i ≤ n → i ≤ i * w
+-- with n slots, e parent edges and at most p of them, t target edges, i integers of w bits, x for top-level, y for nested clafers and z for integers that have to differ
+rules_sum : (n e p t i w x y z bounds pairs_y pairs_z pairs inputs consistent parents targets sets : ℕ) → 1 ≤ n → e ≤ p → i ≤ n → i ≤ i * w
     → inputs ≤ n + p + t + i * w → consistent ≤ 4 * p + 4 * t + 6 * n + i * (17 * w + 24) + 13 → parents ≤ 7 * p + 3 * n + 4 → targets ≤ 7 * t + 3 * n + 4
     → sets ≤ (y + 1) + (x + 1) + (z + 1) + 2 → x ≤ 6 * t → 2 * y ≤ 2 * (4 * p + 4 * t + 4 * n) + pairs_y → 2 * z ≤ 2 * (4 * p + 3 * i) + pairs_z → pairs_y + pairs_z ≤ 2 * pairs
-    → inputs + (consistent + parents + targets + (bounds + 2 * n + 3) + sets + 4) ≤ 32 * (p + t + w * i + 2 * n) + pairs + bounds + 7
-rules_sum n p t i w x y z bounds pairs_y pairs_z pairs inputs consistent parents targets sets some few wide a b c d e f g h k = omega (arith, some, few, wide, a, b, c, d, e, f, g, h, k)
+    → inputs + (consistent + parents + targets + (bounds + 2 * n + 3) + sets + 4) + (12 * e + 5 * n + 1) ≤ 32 * (p + t + w * i + 2 * n) + pairs + bounds + 7
+rules_sum n e p t i w x y z bounds pairs_y pairs_z pairs inputs consistent parents targets sets some edges few wide a b c d l f g h k = omega (arith, some, edges, few, wide, a, b, c, d, l, f, g, h, k)
 
-bounds_sum : (n p t i w bounds pairs inputs : ℕ) → inputs ≤ n + p + t + i * w → inputs + (bounds + 2 * n + 3) ≤ 32 * (p + t + w * i + 2 * n) + pairs + bounds + 7
-bounds_sum n p t i w bounds pairs inputs a = omega (arith, a)
+bounds_sum : (n e p t i w bounds pairs inputs : ℕ) → e ≤ p → inputs ≤ n + p + t + i * w → inputs + (bounds + 2 * n + 3) + (12 * e + 5 * n + 1) ≤ 32 * (p + t + w * i + 2 * n) + pairs + bounds + 7
+bounds_sum n e p t i w bounds pairs inputs edges a = omega (arith, edges, a)
 
 module _ (clafers : List Clafer) (scopes : Scopes) (layout : Layout) (fit : Fits clafers scopes layout) (empty : IsTrue (abstract_are_empty clafers scopes)) where
   integers_slots : integers clafers layout ≤ length layout.slots
@@ -234,7 +234,7 @@ module _ (clafers : List Clafer) (scopes : Scopes) (layout : Layout) (fit : Fits
       at false = omega arith
 
   pub shape_few : IsTrue (each clafers (has_right_super clafers)) → IsTrue (int_le scopes.low scopes.high) → sets_cost clafers layout ≤ pairs_sets_cost clafers layout
-      → size layout + shape_cost clafers scopes layout ≤ sum (map (weight_at clafers scopes) (numbers_below (length clafers))) + 7
+      → size layout + shape_cost clafers scopes layout + slots_room layout ≤ sum (map (weight_at clafers scopes) (numbers_below (length clafers))) + 7
   shape_few right range sets = by (length layout.slots == 0) refl
     where
       n : ℕ
@@ -272,16 +272,16 @@ module _ (clafers : List Clafer) (scopes : Scopes) (layout : Layout) (fit : Fits
       wide : (k w : ℕ) → 1 ≤ w → k ≤ k * w
       wide k w h = let more = mul-le-mul_left k h in omega (arith, more)
 
-      by : (b : Bool) → (length layout.slots == 0) ≡ b → size layout + cond b (bounds_cost clafers layout) (rules_cost clafers scopes layout) ≤ sum (map (weight_at clafers scopes) (numbers_below (length clafers))) + 7
+      by : (b : Bool) → (length layout.slots == 0) ≡ b → size layout + cond b (bounds_cost clafers layout) (rules_cost clafers scopes layout) + slots_room layout ≤ sum (map (weight_at clafers scopes) (numbers_below (length clafers))) + 7
       by true e =
-          let all = bounds_sum n p t i w (bounds_room clafers layout (length clafers)) pairs (size layout) inputs in
+          let all = bounds_sum n (length layout.parents) p t i w (bounds_room clafers layout (length clafers)) pairs (size layout) (parents_few clafers scopes layout fit) inputs in
           let least = weight in
           omega (arith, all, least)
       by false e =
-          let all = rules_sum n p t i w (singles_cost clafers layout (length clafers)) (slots_cost clafers layout (length layout.slots)) (values_cost clafers layout (length layout.values))
+          let all = rules_sum n (length layout.parents) p t i w (singles_cost clafers layout (length clafers)) (slots_cost clafers layout (length layout.slots)) (values_cost clafers layout (length layout.values))
           (bounds_room clafers layout (length clafers)) (by_clafers clafers scopes (λ c. twin_share clafers scopes c * scope_of scopes c)) (by_clafers clafers scopes (λ c. cond (refers_to_int clafers c) (equal_share clafers scopes c * scope_of scopes c) 0))
           pairs (size layout) (consistent_cost scopes layout) (placed_cost layout layout.parents) (placed_cost layout layout.targets) (sets_cost clafers layout)
-          (some n e) integers_slots (wide i w (some_width scopes)) inputs (consistent_few clafers scopes layout fit range) (placed_parents_few clafers scopes layout fit) (placed_targets_few clafers scopes layout fit)
+          (some n e) (parents_few clafers scopes layout fit) integers_slots (wide i w (some_width scopes)) inputs (consistent_few clafers scopes layout fit range) (placed_parents_few clafers scopes layout fit) (placed_targets_few clafers scopes layout fit)
           sets (singles_few clafers scopes layout fit) (nested_few clafers scopes layout fit) (values_few clafers scopes layout fit) (pairs_few clafers scopes) in
           let least = weight in
           omega (arith, all, least)

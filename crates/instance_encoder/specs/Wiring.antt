@@ -46,3 +46,7 @@ pub record IsValuedSoFar (clafers : List Clafer) (slots : List Node) (first bits
   pub slots_so_far : map (λ v. v.slot) values ≡ filter (λ i. refers_to_int clafers (slot_clafer slots i)) (numbers_below n)
   pub widths : All (λ v. length v.bits ≡ bits) values
   pub wires : value_wires values ≡ range_with_len first (length (value_wires values))
+
+-- the most inputs that n slots can take: one each, two edges for each pair of slots, and 127 bits of an integer each
+abbrev pub most_inputs : ℕ → ℕ
+most_inputs n = n + 2 * (n * n) + 127 * n

@@ -23,6 +23,7 @@ fn push_edges(
 ) -> Result<(), NoMemory>
     requires room { length circuit.old + length near.now ≤ MOST_WIRES }
     ensures more { OnOk result ((first most : ℕ) (pairs : Seq (ℕ × ℕ)) → IsWiredSoFar first most pairs circuit.old edges.old → IsWiredSoFar first (most + length near.now) (pairs ++ map (λ j. (from, j)) near.now) circuit.new edges.new) }
+    ensures few { length circuit.new ≤ length circuit.old + length near.now }
 {
     for at in 0..near.len() {
         let to = *near.get(at);
@@ -47,7 +48,8 @@ pub(crate) fn edges(
     requires few { length slots.now ≤ 2048 }
     requires read { IsRead circuit.old (length circuit.old) }
     requires room { length circuit.old + length slots.now * length slots.now ≤ MOST_WIRES }
-    ensures { IfOk result (IsWiredSoFar (length circuit.old) (length slots.now * length slots.now) (all_ends (near_of tie clafers.now) slots.now) circuit.new) }
+    ensures wired { IfOk result (IsWiredSoFar (length circuit.old) (length slots.now * length slots.now) (all_ends (near_of tie clafers.now) slots.now) circuit.new) }
+    ensures few { length circuit.new ≤ length circuit.old + length slots.now * length slots.now }
 {
     let mut edges = List::new(alloc);
     let mut near = Near {

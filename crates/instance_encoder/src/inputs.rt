@@ -20,6 +20,7 @@ pub(crate) fn inputs(
     ensures wires { IfOk result (λ ws. map (λ w. w.number) ws ≡ range_with_len (length circuit.old) count) }
     ensures read { OnOk result (IsRead circuit.new (length circuit.new)) }
     ensures size { OnOk result (length circuit.new ≡ length circuit.old + count) }
+    ensures few { length circuit.new ≤ length circuit.old + count }
 {
     let mut wires = List::new(alloc);
     for _at in 0..count {

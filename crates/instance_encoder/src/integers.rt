@@ -33,7 +33,8 @@ pub(crate) fn values(
     requires few { length slots.now ≤ 2048 }
     requires read { IsRead circuit.old (length circuit.old) }
     requires room { length circuit.old + length slots.now * bits ≤ MOST_WIRES }
-    ensures { IfOk result (IsValuedSoFar clafers.now slots.now (length circuit.old) bits (length slots.now) circuit.new) }
+    ensures valued { IfOk result (IsValuedSoFar clafers.now slots.now (length circuit.old) bits (length slots.now) circuit.new) }
+    ensures few { length circuit.new ≤ length circuit.old + length slots.now * bits }
 {
     let mut values = List::new(alloc);
     for slot in 0..slots.len() {

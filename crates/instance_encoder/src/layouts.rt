@@ -3,6 +3,7 @@
 ghost use Rattle.std.specs.Prelude.{◌≡◌, [], ◌<◌, ◌≤◌, ◌^◌, length, sum, IfOk, IsTrue};
 ghost use Rattle.clf_tree.specs.Hierarchy.{is_closed};
 ghost use Rattle.set_bits.specs.Fitting.{Fits, IsRead, size, value_width};
+ghost use Rattle.instance_encoder.specs.Wiring.{most_inputs};
 
 use crate::edges::edges;
 use crate::inputs::inputs;
@@ -30,7 +31,7 @@ fn value_width(scopes: &Scopes) -> u32
 /// The layout of a model within its scopes, with an input for each live, parent and target bit and for each bit of an integer.
 ///
 /// The answer fits the model and the scopes, and the circuit has its inputs alone, numbered in the order of the layout's bits. With n
-/// slots there are at most n + 2·n·n + 127·n inputs. The time grows with the number of inputs, and with the clafers and slots once for each
+/// slots there are at most n + 2·n·n + 127·n inputs, also where memory is wanting. The time grows with the number of inputs, and with the clafers and slots once for each
 /// clafer. Where memory is wanting, the circuit may hold some inputs, and is of no use any more.
 pub fn layout(
     alloc: Global,
@@ -46,6 +47,7 @@ pub fn layout(
     ensures fits { IfOk result (Fits core.now.clafers scopes.now) }
     ensures read { IfOk result (λ layout. IsRead circuit.new (size layout)) }
     ensures alone { IfOk result (λ layout. length circuit.new ≡ size layout) }
+    ensures few { length circuit.new ≤ most_inputs (sum scopes.now.of) }
 {
     let slots = slots(alloc, &core.clafers, scopes)?;
     let live = inputs(alloc, circuit, slots.len())?;

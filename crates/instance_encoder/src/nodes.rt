@@ -45,6 +45,7 @@ pub(crate) fn slots(
     requires few { sum scopes.now.of ≤ 2048 }
     ensures nodes { IfOk result (λ s. s ≡ nodes_within clafers.now scopes.now) }
     ensures known { IfOk result (λ s. IsTrue (list_all (λ n. nat_lt n.clafer (length clafers.now)) s)) }
+    ensures total { IfOk result (λ s. length s ≤ sum scopes.now.of) }
     ensures few { IfOk result (λ s. length s ≤ 2048) }
 {
     let slots = all_nodes(alloc, clafers, scopes)?;

@@ -88,6 +88,8 @@ fn meets_rules(
 
 /// A wire that is true exactly where the bits of a layout show an instance that is a tree of the right shape.
 ///
+/// At all bits, of any number, its value is `is_shaped`, a test of the bits; `shaped_bits_show_a_tree` is the law of what the test says.
+///
 /// It is the conjunction of five rules, each a wire that is exact at all bits: the bits show some instance, nodes have their parents and
 /// their targets, they are as many as multiplicities and groups allow, and set references tell them apart. A layout without slots is asked
 /// for the numbers alone. The model may have no clafer that contains itself, and abstract clafers have the scope 0.
@@ -110,6 +112,7 @@ pub fn shape(
     requires read { IsRead circuit.old (size layout.now) }
     requires room { length circuit.old + shape_cost core.now.clafers scopes.now layout.now ≤ MOST_WIRES }
     ensures wire { IfOk result (IsWireOf circuit.new) }
+    ensures value { IfOk result (λ w. (bits : Items Bool) → wire_value circuit.new w bits ≡ is_shaped core.now.clafers scopes.now layout.now bits) }
     ensures shape { IfOk result (λ w. (bits : Items Bool) → length bits ≡ size layout.now → IsTrue (wire_value circuit.new w bits) ↔ ShowsShaped core.now.clafers scopes.now layout.now bits) }
     ensures extends { Extends circuit.old circuit.new (shape_cost core.now.clafers scopes.now layout.now) }
 {

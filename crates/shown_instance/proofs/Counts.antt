@@ -9,11 +9,9 @@ use Rattle.std.proofs.lemmas.Grind.{common_steps}
 use Rattle.std.proofs.lemmas.List.Elements.{All-head, All-tail}
 use Rattle.std.proofs.lemmas.List.Sums.{sum_by-cons}
 use Rattle.bool_circuit.specs.Circuit.{entry}
-use Rattle.clf_tree.specs.declared.model.Clafer.{Clafer}
 use Rattle.clf_tree.specs.declared.instance.Node.{Node}
 use Rattle.clf_tree.specs.declared.instance.Entry.{Entry}
 use Rattle.clf_tree.specs.Lists.{each_two, numbers_below}
-use Rattle.clf_tree.specs.Hierarchy.{is_a}
 use Rattle.clf_tree.specs.Nodes.{same_node, is_before}
 use Rattle.clf_tree.specs.Shape.{is_child_of}
 use Rattle.set_bits.specs.declared.layout.Edge.{Edge}

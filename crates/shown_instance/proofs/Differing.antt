@@ -2,8 +2,8 @@
 use Rattle.std.proofs.Common.{◌≡◌, ◌≢◌, ℕ, zero, suc, ◌+◌, ◌<◌, ◌≤◌, Bool, true, false, not, cond, ◌&&◌, ◌||◌, List, [], ◌∷◌, length, map, get_or, Option, Some, None, refl, sym, ap, ◌∙◌, subst, arith, ◌⊎◌, inl, inr}
 use Rattle.std.specs.Prelude.{slice_get, ◌==◌, is_some, is_none, nat_lt, nat_le, ℤ}
 use Rattle.std.specs.Ordering.{int_eq}
-use Rattle.std.specs.Option.{option_map, option_map_or, option_and_then}
-use Rattle.std.specs.List.{filter, find, list_all, list_any, All, range_with_len, count_by}
+use Rattle.std.specs.Option.{option_map_or, option_and_then}
+use Rattle.std.specs.List.{filter, find, list_all, list_any, range_with_len, count_by}
 use Rattle.std.proofs.lemmas.Bool.{true≢false}
 use Rattle.std.proofs.lemmas.Bool.Decides.{eqb_tells, nat_tests}
 use Rattle.std.proofs.lemmas.Grind.{common_steps}
@@ -13,14 +13,13 @@ use Rattle.integer_bits.specs.Numbers.{integer_of}
 use Rattle.clf_tree.specs.declared.model.Clafer.{Clafer}
 use Rattle.clf_tree.specs.declared.model.Reference.{Reference}
 use Rattle.clf_tree.specs.declared.instance.Node.{Node}
-use Rattle.clf_tree.specs.declared.instance.Target.{Target}
 use Rattle.clf_tree.specs.declared.instance.Target.TheVariants as target
 use Rattle.clf_tree.specs.declared.instance.Entry.{Entry}
 use Rattle.clf_tree.specs.declared.scopes.Scopes.{Scopes}
 use Rattle.clf_tree.specs.Lists.{each_two, numbers_below, has}
 use Rattle.clf_tree.specs.Hierarchy as h
 use Rattle.clf_tree.specs.Hierarchy.{owners, parent_of, reference_of, refers_to_int, concrete_below, is_a, way_up}
-use Rattle.clf_tree.specs.Nodes.{same_node, is_before}
+use Rattle.clf_tree.specs.Nodes.{same_node}
 use Rattle.clf_tree.specs.Shape.{allows, is_set, same_target, same_option, differ}
 use Rattle.set_bits.specs.declared.layout.Edge.{Edge}
 use Rattle.set_bits.specs.declared.layout.SlotBits.{SlotBits}
@@ -33,7 +32,7 @@ use Rattle.shown_instance.specs.Placed.{have_taken, lead_to_live, have_parents, 
 use Rattle.shown_instance.specs.Bounds.{children_below, have_times, have_group, have_bounds}
 use Rattle.shown_instance.specs.Distinct.{leads_there, lead_together, allows_two, tells_apart, are_compared, targets_differ, integers_differ, have_sets}
 use Rattle.shown_instance.proofs.Order.{both, together}
-use Rattle.shown_instance.proofs.Adapting.{all_pass, Passing, any_passes}
+use Rattle.shown_instance.proofs.Adapting.{all_pass, any_passes}
 use Rattle.shown_instance.proofs.Telling.{slot_at}
 use Rattle.shown_instance.proofs.Fitted.{values_inside}
 use Rattle.shown_instance.proofs.Once.{each_two-map, two_at}

@@ -1,10 +1,9 @@
 -- Where no clafer contains itself, following parents ends.
-use Rattle.std.proofs.Common.{◌≡◌, ◌≢◌, ℕ, zero, suc, ◌+◌, ◌<◌, ◌≤◌, Bool, true, false, not, cond, ◌&&◌, ◌||◌, List, [], ◌∷◌, length, map, get_or, Option, Some, None, refl, sym, ap, ◌∙◌, subst, arith, ◌⊎◌, inl, inr}
-use Rattle.std.specs.Prelude.{◌==◌, is_some, is_none, count_by}
+use Rattle.std.proofs.Common.{◌≡◌, ℕ, zero, suc, ◌+◌, ◌<◌, ◌≤◌, Bool, true, false, not, cond, ◌&&◌, ◌||◌, List, [], ◌∷◌, length, get_or, Option, Some, None, refl, sym, ap, ◌∙◌, subst, arith}
+use Rattle.std.specs.Prelude.{◌==◌, is_none, count_by}
 use Rattle.std.specs.Option.{option_map_or, option_and_then}
-use Rattle.std.specs.List.{filter, list_all, list_any, All, range_with_len}
+use Rattle.std.specs.List.{filter, list_any, All, range_with_len}
 use Rattle.std.proofs.lemmas.Bool.{true≢false}
-use Rattle.std.proofs.lemmas.Bool.Decides.{eqb_tells}
 use Rattle.std.proofs.lemmas.Grind.{common_steps}
 use Rattle.std.proofs.lemmas.Map.Views.{any-filter_same}
 use Rattle.clf_tree.specs.declared.model.Clafer.{Clafer}
@@ -13,9 +12,8 @@ use Rattle.clf_tree.specs.declared.instance.Entry.{Entry}
 use Rattle.clf_tree.specs.Lists.{numbers_below, has}
 use Rattle.clf_tree.specs.Hierarchy.{owners, parent_of, is_concrete, is_a, concrete_below}
 use Rattle.clf_tree.specs.Named.{owners_of, is_outside, contains_itself}
-use Rattle.clf_tree.specs.Nodes.{same_node, has_node, has_some, nodes_of, entry_of, parent_in, has_its_parent, ends_within}
+use Rattle.clf_tree.specs.Nodes.{same_node, has_node, has_some, nodes_of, parent_in, has_its_parent, ends_within}
 use Rattle.shown_instance.proofs.Order.{both, together, same_nodes}
-use Rattle.shown_instance.proofs.Adapting.{all_pass}
 use Rattle.shown_instance.proofs.Fitted.{concrete_within, or_right}
 use Rattle.shown_instance.proofs.Belonging.{any_range}
 use Rattle.shown_instance.proofs.Counts.{count-cons}

@@ -1,5 +1,5 @@
 -- What all rules come to.
-use Rattle.std.proofs.Common.{◌≡◌, Bool, true, ◌&&◌, List, length, refl, sym, ap, ◌∙◌, subst}
+use Rattle.std.proofs.Common.{◌≡◌, Bool, true, ◌&&◌, List, length, sym, ◌∙◌, subst}
 use Rattle.std.specs.Prelude.{not}
 use Rattle.std.specs.Option.{option_map_or}
 use Rattle.std.specs.List.{list_all}
@@ -13,7 +13,6 @@ use Rattle.clf_tree.specs.Shape.{has_shape, differ, meets_times, meets_group, me
 use Rattle.std.specs.Prelude.{slice_get}
 use Rattle.set_bits.specs.declared.layout.Layout.{Layout}
 use Rattle.set_bits.specs.Fitting.{Fits, size}
-use Rattle.set_bits.specs.Showing.{Shows}
 use Rattle.shown_instance.specs.Bounds.{have_bounds}
 use Rattle.shown_instance.specs.Consistent.{abstract_are_empty, is_consistent}
 use Rattle.shown_instance.specs.Distinct.{have_sets}

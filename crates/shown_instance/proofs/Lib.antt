@@ -17,7 +17,9 @@ pub mod Packing
 pub mod Placing
 pub mod Reading
 pub mod Sound
+pub mod Spelled
 pub mod Telling
 pub mod Trees
 pub mod Valued
 pub mod Whole
+pub mod Widths

@@ -1,5 +1,5 @@
 -- The entries that bits tell make trees exactly where they have their parents.
-use Rattle.std.proofs.Common.{◌≡◌, ℕ, ◌<◌, Bool, true, false, not, ◌&&◌, List, [], ◌∷◌, length, get_or, refl, sym, ap, ◌∙◌, arith}
+use Rattle.std.proofs.Common.{◌≡◌, ℕ, ◌<◌, Bool, true, false, not, ◌&&◌, List, [], ◌∷◌, length, get_or, refl, sym, ◌∙◌, arith}
 use Rattle.std.specs.Prelude.{nat_lt}
 use Rattle.std.specs.List.{list_all}
 use Rattle.std.proofs.lemmas.Bool.{true≢false}
@@ -7,7 +7,6 @@ use Rattle.clf_tree.specs.declared.model.Clafer.{Clafer}
 use Rattle.clf_tree.specs.declared.instance.Node.{Node}
 use Rattle.clf_tree.specs.declared.instance.Entry.{Entry}
 use Rattle.clf_tree.specs.declared.scopes.Scopes.{Scopes}
-use Rattle.clf_tree.specs.Lists.{numbers_below}
 use Rattle.clf_tree.specs.Hierarchy.{is_concrete}
 use Rattle.clf_tree.specs.Named.{each, contains_itself}
 use Rattle.clf_tree.specs.Nodes.{named_by, scope_of, has_its_parent, ends_within, is_within, is_tree}

@@ -1,11 +1,12 @@
 -- When bits show an instance that is a tree of the right shape.
-use Rattle.std.specs.Prelude.{◌≡◌, ◌&&◌, List, Bool, true}
+use Rattle.std.specs.Prelude.{◌≡◌, ◌&&◌, ◌^◌, ◌≤ℤ◌, ◌<ℤ◌, pos, neg_ℤ, IsTrue, List, Bool, true}
 use Rattle.clf_tree.specs.declared.model.Clafer.{Clafer}
 use Rattle.clf_tree.specs.declared.scopes.Scopes.{Scopes}
 use Rattle.clf_tree.specs.declared.instance.Entry.{Entry}
-use Rattle.clf_tree.specs.Nodes.{is_tree}
+use Rattle.clf_tree.specs.Nodes.{is_within, is_ordered, is_tree}
 use Rattle.clf_tree.specs.Shape.{has_shape}
 use Rattle.set_bits.specs.declared.layout.Layout.{Layout}
+use Rattle.set_bits.specs.Fitting.{Fits}
 use Rattle.set_bits.specs.Showing.{Shows}
 use Rattle.shown_instance.specs.Bounds.{have_bounds}
 use Rattle.shown_instance.specs.Consistent.{is_consistent}
@@ -23,3 +24,10 @@ pub record ShowsShaped (clafers : List Clafer) (scopes : Scopes) (layout : Layou
 abbrev pub is_shaped : List Clafer → Scopes → Layout → List Bool → Bool
 is_shaped clafers scopes layout bits =
     is_consistent scopes layout bits && have_parents clafers layout bits && have_targets clafers layout bits && have_bounds clafers layout bits && have_sets clafers layout bits
+
+-- some bits show the instance where it is within the scopes, ordered, a tree and of the right shape, and the scopes' integers have 64 bits
+abbrev pub HasBits : List Clafer → Scopes → Layout → List Entry → Type 0
+HasBits clafers scopes layout entries =
+    Fits clafers scopes layout → neg_ℤ (pos (2 ^ 63)) ≤ℤ scopes.low → scopes.high <ℤ pos (2 ^ 63)
+    → IsTrue (is_within clafers scopes entries) → IsTrue (is_ordered entries) → IsTrue (is_tree clafers entries) → IsTrue (has_shape clafers scopes entries)
+    → (bits : List Bool) × Shows clafers scopes layout bits entries

@@ -11,7 +11,10 @@ ghost use Rattle.set_bits.specs.Showing.{Shows};
 ghost use Rattle.clf_tree.specs.Nodes.{entry_of, is_in_range, is_within, is_ordered, is_tree};
 ghost use Rattle.clf_tree.specs.Shape.{has_shape};
 ghost use Rattle.shown_instance.specs.Packed.{IsPacked, aligned, is_between};
+ghost use Rattle.shown_instance.specs.Shaped.{HasBits};
 ghost use Rattle.shown_instance.specs.Shown.{shown};
+
+use integer_bits::what_fits_is_kept;
 
 /// Bits show no instance but the one that they tell.
 pub fn the_told_instance_alone_is_shown()
@@ -44,3 +47,11 @@ pub fn integers_are_in_range()
 pub fn one_list_of_bits_shows()
     ensures { (clafers : List Clafer) (scopes : Scopes) (layout : Layout) (some : List Bool) (others : List Bool) (entries : List Entry) → Fits clafers scopes layout → Shows clafers scopes layout some entries → Shows clafers scopes layout others entries → some ≡ others }
 {}
+
+/// Some bits show each instance within the scopes that is ordered, a tree and of the right shape. The integers of the range have at most 64
+/// bits.
+pub fn each_instance_has_bits()
+    ensures { (clafers : List Clafer) (scopes : Scopes) (layout : Layout) (entries : List Entry) → HasBits clafers scopes layout entries }
+{
+    what_fits_is_kept();
+}

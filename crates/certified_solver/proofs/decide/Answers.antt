@@ -1,4 +1,5 @@
-use Rattle.std.proofs.Common.{◌∙◌, subst}
+use Rattle.std.proofs.Common.{◌∙◌, All, length, subst}
+use Rattle.clause_store.specs.Literals.{HasVariablesBelow}
 use Rattle.clause_store.specs.Satisfaction.{SatisfiesAll}
 use Rattle.cdcl_search.specs.Progress.{IsRunEnded, assignment_of}
 use Rattle.cdcl_search.specs.declared.engine.Ended.TheVariants.{Spent}
@@ -7,7 +8,11 @@ use Rattle.certified_solver.proofs.decide.Goals as goal
 
 pub returns-in_ok-values-in-Satisfied-clause-verdict : goal.returns-in_ok-values-in-Satisfied-clause-verdict
 returns-in_ok-values-in-Satisfied-clause-verdict g c =
-    subst (λ x. SatisfiesAll (assignment_of c.in_ok-values-in-Satisfied.values) x) (c.run.ensures.given ∙ c.in_ok-search.ensures.given) c.in_ok-values-in-Satisfied.ensures
+    subst (λ x. SatisfiesAll (assignment_of c.in_ok-values-in-Satisfied.values) x) (c.run.ensures.given ∙ c.in_ok-search.ensures.given) c.in_ok-values-in-Satisfied.ensures.satisfies
+
+pub returns-in_ok-values-in-Satisfied-clause-values : goal.returns-in_ok-values-in-Satisfied-clause-values
+returns-in_ok-values-in-Satisfied-clause-values g c =
+    subst (λ x. All (HasVariablesBelow (length c.in_ok-values-in-Satisfied.values)) x) (c.run.ensures.given ∙ c.in_ok-search.ensures.given) c.in_ok-values-in-Satisfied.ensures.all
 
 pub returns-in-Spent-clause-enough : goal.returns-in-Spent-clause-enough
 returns-in-Spent-clause-enough g c =

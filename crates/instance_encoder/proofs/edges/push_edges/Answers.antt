@@ -15,4 +15,7 @@ loop-at-preserved c = record {
 pub returns : goal.returns
 returns c =
     let e : take c.loop-at.at c.args.near.now ≡ c.args.near.now = take_all c.loop-at.at c.args.near.now (omega (arith, c.len-at-end.ensures)) in
-    record { more = subst (λ (ks : List ℕ). IsMore c.args.from ks c.args.circuit.now c.args.edges.now c.loop-at.circuit c.loop-at.edges) e c.loop-at.invariant.more }
+    record {
+      more = subst (λ (ks : List ℕ). IsMore c.args.from ks c.args.circuit.now c.args.edges.now c.loop-at.circuit c.loop-at.edges) e c.loop-at.invariant.more;
+      few = omega (arith, c.loop-at.invariant.room, c.len-at-end.ensures);
+    }

@@ -10,7 +10,7 @@ edges-requires-clause-room c = omega (arith, square_few (length c.in_ok-slots.sl
 
 pub edges-requires-2-clause-room : goal.edges-requires-2-clause-room
 edges-requires-2-clause-room c =
-    omega (arith, square_few (length c.in_ok-slots.slots) c.in_ok-slots.ensures.few, ap length c.requires.empty, c.len.ensures, c.in_ok-slots.ensures.few, c.in_ok-live.ensures.size, c.in_ok-parents.ensures.size, c.in_ok-parents.ensures.few)
+    omega (arith, square_few (length c.in_ok-slots.slots) c.in_ok-slots.ensures.few, ap length c.requires.empty, c.len.ensures, c.in_ok-slots.ensures.few, c.in_ok-live.ensures.size, c.in_ok-parents.ensures.wired.size, c.in_ok-parents.ensures.wired.few)
 
 pub values-requires-clause-room : goal.values-requires-clause-room
 values-requires-clause-room c =
@@ -22,8 +22,8 @@ values-requires-clause-room c =
       c.len.ensures,
       c.in_ok-slots.ensures.few,
       c.in_ok-live.ensures.size,
-      c.in_ok-parents.ensures.size,
-      c.in_ok-parents.ensures.few,
-      c.in_ok-targets.ensures.size,
-      c.in_ok-targets.ensures.few,
+      c.in_ok-parents.ensures.wired.size,
+      c.in_ok-parents.ensures.wired.few,
+      c.in_ok-targets.ensures.wired.size,
+      c.in_ok-targets.ensures.wired.few,
     )

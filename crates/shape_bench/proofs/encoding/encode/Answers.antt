@@ -4,7 +4,7 @@ use Rattle.clf_tree.specs.declared.model.Clafer.{Clafer}
 use Rattle.std.specs.Prelude.{List, IsTrue, not}
 use Rattle.clf_tree.specs.Named.{each, contains_itself}
 use Rattle.set_bits.specs.Fitting.{Fits, size}
-use Rattle.instance_encoder.specs.Shaping.{shape_cost}
+use Rattle.instance_encoder.specs.Shaping.{shape_cost, slots_room}
 use Rattle.shown_instance.specs.Consistent.{abstract_are_empty}
 use Rattle.bool_circuit.specs.declared.circuit.TheConstants.{MOST_WIRES}
 use Rattle.shape_bench.proofs.Known.{scopes_are_empty, range_is_right}
@@ -24,5 +24,6 @@ shape-requires-clause-room c =
     let layout = c.in_ok-layout.layout in
     let fits = subst (λ (cs : List Clafer). Fits cs read.scopes layout) c.in_ok-core.ensures.clafers c.in_ok-layout.ensures.fits in
     let room = c.shapes_are_within_the_weight.ensures.room read.model read.scopes layout fits (scopes_are_empty read.model.clafers read.scopes read.fit) c.model-plan.ensures.known.inherits_abstract (range_is_right read.scopes read.range) (omega (arith, read.weighs, read.light)) in
-    let here : size layout + shape_cost c.in_ok-core.core.clafers read.scopes layout ≤ MOST_WIRES = subst (λ (cs : List Clafer). size layout + shape_cost cs read.scopes layout ≤ MOST_WIRES) (sym c.in_ok-core.ensures.clafers) room in
+    let here : size layout + shape_cost c.in_ok-core.core.clafers read.scopes layout + slots_room layout ≤ MOST_WIRES =
+    subst (λ (cs : List Clafer). size layout + shape_cost cs read.scopes layout + slots_room layout ≤ MOST_WIRES) (sym c.in_ok-core.ensures.clafers) room in
     omega (arith, here, c.in_ok-layout.ensures.alone)
