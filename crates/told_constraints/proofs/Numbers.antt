@@ -1,7 +1,7 @@
 -- Numbers that their widths hold, and the integers of slots.
-use Rattle.std.proofs.Common.{◌≡◌, ℕ, zero, suc, ◌+◌, ◌<◌, ◌≤◌, Bool, true, false, not, cond, ◌&&◌, ◌||◌, List, [], ◌∷◌, map, length, Option, Some, None, refl, sym, ap, ◌∙◌, arith, ℤ, pos}
+use Rattle.std.proofs.Common.{◌≡◌, ℕ, ◌<◌, Bool, true, false, not, cond, ◌&&◌, ◌||◌, List, [], ◌∷◌, map, length, Option, Some, None, refl, sym, ap, ◌∙◌, arith, ℤ, pos}
 use Rattle.std.specs.Prelude.{nat_le}
-use Rattle.std.specs.List.{filter, list_all, list_any}
+use Rattle.std.specs.List.{list_all}
 use Rattle.std.specs.Option.{option_map_or, option_and_then}
 use Rattle.std.proofs.lemmas.Bool.Decides.{nat_tests}
 use Rattle.std.proofs.lemmas.List.{length-map}
@@ -15,14 +15,14 @@ use Rattle.clf_tree.specs.declared.instance.Target.{Target}
 use Rattle.clf_tree.specs.declared.instance.Target.TheVariants as target
 use Rattle.clf_tree.specs.declared.instance.Entry.{Entry}
 use Rattle.clf_tree.specs.Meaning.{int_in, int_of, same_set, all_in}
-use Rattle.clf_tree.specs.Nodes.{same_node, has_node, entry_of}
+use Rattle.clf_tree.specs.Nodes.{same_node, has_node}
 use Rattle.clf_tree.specs.CoreSoundness.{holds_integer}
 use Rattle.bool_circuit.specs.Circuit.{bool_xor}
 use Rattle.set_bits.specs.declared.layout.Layout.{Layout}
 use Rattle.set_bits.specs.Fitting.{slot}
 use Rattle.set_bits.specs.Showing.{integer_in}
 use Rattle.set_bits.proofs.Staying.{held_fits}
-use Rattle.shown_instance.specs.Shown.{shown, entry_at, is_live, integer_at}
+use Rattle.shown_instance.specs.Shown.{shown, entry_at, is_live}
 use Rattle.shown_instance.proofs.Consistent.{shown_entry}
 use Rattle.shown_instance.proofs.Order.{both}
 use Rattle.shown_instance.proofs.Valued.{entry_integer}
@@ -47,7 +47,8 @@ map_map : {X Y Z : Type 0} (g : Y → Z) (f : X → Y) (xs : List X) → map g (
 map_map g f [] = refl
 map_map g f (x ∷ xs) = ap (λ ys. g (f x) ∷ ys) (map_map g f xs)
 
-pub counted : (layout : Layout) (bits : List Bool) (p : ℕ → Bool) (ns : List Node) → Same layout bits p ns → length (members layout p) ≡ length ns
+pub counted : (layout : Layout) (bits : List Bool) (p : ℕ → Bool) (ns : List Node) → Same layout bits p ns
+    → length (members layout p) ≡ length ns
 counted layout bits p ns same = sym (length-map (members layout p) (slot layout.slots)) ∙ ap length same.list
 
 -- the integer of a target, 0 where there is none
@@ -57,22 +58,28 @@ int_told (Some (target.Int z)) = refl
 int_told (Some (target.Node n)) = refl
 
 module _ (clafers : List Clafer) (scopes : Scopes) (layout : Layout) (bits : List Bool) (s : Setting clafers scopes layout bits) where
-  integer_told : (i : ℕ) → i < length layout.slots → is_live layout bits i ≡ true → slot_integer layout bits i ≡ int_of [] (shown layout bits) (slot layout.slots i)
+  integer_told : (i : ℕ) → i < length layout.slots → is_live layout bits i ≡ true
+      → slot_integer layout bits i ≡ int_of [] (shown layout bits) (slot layout.slots i)
   unfolding slot_integer
   integer_told i h live =
-      sym (ap (λ o. option_map_or (λ z. z) o (pos 0)) (entry_integer clafers scopes layout bits i s.fits h)) ∙ int_told (entry_at layout bits i).target
-      ∙ sym (ap (λ o. option_map_or int_in (option_and_then (λ (x : Entry). x.target) o) (pos 0)) (shown_entry layout bits i s.asc h ∙ ap (λ b. cond b (Some (entry_at layout bits i)) None) live))
+      sym (ap (λ o. option_map_or (λ z. z) o (pos 0)) (entry_integer clafers scopes layout bits i s.fits h))
+      ∙ int_told (entry_at layout bits i).target
+      ∙ sym (ap (λ o. option_map_or int_in (option_and_then (λ (x : Entry). x.target) o) (pos 0))
+      (shown_entry layout bits i s.asc h ∙ ap (λ b. cond b (Some (entry_at layout bits i)) None) live))
 
-  pub values_same : (p : ℕ → Bool) (ns : List Node) → Same layout bits p ns → map (slot_integer layout bits) (members layout p) ≡ map (int_of [] (shown layout bits)) ns
+  pub values_same : (p : ℕ → Bool) (ns : List Node) → Same layout bits p ns
+      → map (slot_integer layout bits) (members layout p) ≡ map (int_of [] (shown layout bits)) ns
   unfolding members
   values_same p ns same =
       map_range (slot_integer layout bits) (λ i. int_of [] (shown layout bits) (slot layout.slots i)) p 0 (length layout.slots)
       (λ i l u t. let h : i < length layout.slots = omega (arith, u) in integer_told i h (same.live i h t))
-      ∙ sym (map_map (int_of [] (shown layout bits)) (slot layout.slots) (members layout p)) ∙ ap (map (int_of [] (shown layout bits))) same.list
+      ∙ sym (map_map (int_of [] (shown layout bits)) (slot layout.slots) (members layout p))
+      ∙ ap (map (int_of [] (shown layout bits))) same.list
 
   -- ---- comparing sets
 
-  pub within_same : (p q : ℕ → Bool) (ms ns : List Node) → Same layout bits p ms → Same layout bits q ns → list_all (λ i. not (p i && not (q i))) (all_slots layout) ≡ all_in same_node ms ns
+  pub within_same : (p q : ℕ → Bool) (ms ns : List Node) → Same layout bits p ms → Same layout bits q ns
+      → list_all (λ i. not (p i && not (q i))) (all_slots layout) ≡ all_in same_node ms ns
   unfolding members
   within_same p q ms ns left right =
       all_range (λ i. not (p i && not (q i))) (λ i. not (p i) || has_node ns (slot layout.slots i)) 0 (length layout.slots)
@@ -86,9 +93,11 @@ module _ (clafers : List Clafer) (scopes : Scopes) (layout : Layout) (bits : Lis
       turn true false = refl
       turn false b = refl
 
-  pub equal_same : (p q : ℕ → Bool) (ms ns : List Node) → Same layout bits p ms → Same layout bits q ns → list_all (λ i. not (bool_xor (p i) (q i))) (all_slots layout) ≡ same_set same_node ms ns
+  pub equal_same : (p q : ℕ → Bool) (ms ns : List Node) → Same layout bits p ms → Same layout bits q ns
+      → list_all (λ i. not (bool_xor (p i) (q i))) (all_slots layout) ≡ same_set same_node ms ns
   equal_same p q ms ns left right =
-      all_range (λ i. not (bool_xor (p i) (q i))) (λ i. not (p i && not (q i)) && not (q i && not (p i))) 0 (length layout.slots) (λ i l u. turn (p i) (q i))
+      all_range (λ i. not (bool_xor (p i) (q i))) (λ i. not (p i && not (q i)) && not (q i && not (p i))) 0 (length layout.slots)
+      (λ i l u. turn (p i) (q i))
       ∙ all_and (λ i. not (p i && not (q i))) (λ i. not (q i && not (p i))) (all_slots layout)
       ∙ ap (λ b. b && list_all (λ i. not (q i && not (p i))) (all_slots layout)) (within_same p q ms ns left right)
       ∙ ap (λ b. all_in same_node ms ns && b) (within_same q p ns ms right left)

@@ -1,5 +1,5 @@
 -- What is told on a layout of two clafers, computed: `a -> b`, and `b -> integer` under `a`; one `a` and two `b` at most.
-use Rattle.std.proofs.Common.{◌≡◌, ℕ, Bool, true, false, List, [], ◌∷◌, ◌++◌, refl, ℤ, pos, negsuc}
+use Rattle.std.proofs.Common.{◌≡◌, ℕ, Bool, true, false, List, [], ◌∷◌, refl, ℤ, pos, negsuc}
 use Rattle.bool_circuit.specs.declared.gate.Wire.{Wire}
 use Rattle.integer_bits.specs.Numbers.{cut, spelled}
 use Rattle.clf_tree.specs.declared.core_expr.Quantifier.TheVariants as word

@@ -1,5 +1,5 @@
 -- Bits that show a tree of the right shape: what every form of expression asks of them.
-use Rattle.std.proofs.Common.{◌≡◌, ℕ, ◌<◌, ◌≤◌, Bool, true, false, not, ◌&&◌, ◌||◌, List, length, get_or, refl, sym, ap, ◌∙◌, subst}
+use Rattle.std.proofs.Common.{◌≡◌, ℕ, ◌≤◌, Bool, true, not, ◌&&◌, ◌||◌, List, length, get_or, ap, ◌∙◌, subst}
 use Rattle.std.specs.Prelude.{slice_get, is_some}
 use Rattle.std.specs.Option.{option_map_or}
 use Rattle.std.specs.List.{list_all, All, count_by}
@@ -42,7 +42,8 @@ pub record Setting (clafers : List Clafer) (scopes : Scopes) (layout : Layout) (
   pub parents : AreSteps layout bits layout.parents
   pub targets : AreSteps layout bits layout.targets
 
-steps_of : (near : ℕ → List ℕ) (layout : Layout) (edges : List Edge) (bits : List Bool) → ends edges ≡ all_ends near layout.slots → are_edges layout edges bits ≡ true → lead_to_live layout edges bits ≡ true → AreSteps layout bits edges
+steps_of : (near : ℕ → List ℕ) (layout : Layout) (edges : List Edge) (bits : List Bool) → ends edges ≡ all_ends near layout.slots
+    → are_edges layout edges bits ≡ true → lead_to_live layout edges bits ≡ true → AreSteps layout bits edges
 steps_of near layout edges bits h consistent lands =
     let p = both (lead_from_live layout edges bits) (are_single edges bits) consistent in
     record {
@@ -50,26 +51,34 @@ steps_of near layout edges bits h consistent lands =
       single = λ i. single_count bits i edges p.1;
       lands = λ k d l.
           let e : Edge = get_or edges k d in
-          implied (entry bits e.here) (is_live layout bits e.to) (all_pass (λ (x : Edge). not (entry bits x.here) || is_live layout bits x.to) edges lands k d l);
+          implied (entry bits e.here) (is_live layout bits e.to)
+          (all_pass (λ (x : Edge). not (entry bits x.here) || is_live layout bits x.to) edges lands k d l);
     }
 
-pub setting_of : (clafers : List Clafer) (scopes : Scopes) (layout : Layout) (bits : List Bool) → Fits clafers scopes layout → ShowsShaped clafers scopes layout bits → Setting clafers scopes layout bits
+pub setting_of : (clafers : List Clafer) (scopes : Scopes) (layout : Layout) (bits : List Bool) → Fits clafers scopes layout
+    → ShowsShaped clafers scopes layout bits → Setting clafers scopes layout bits
 setting_of clafers scopes layout bits f w = record {
   fits = f;
   asc = ap (each_two is_before) f.slots ∙ slots_ascend clafers scopes;
   shaped =
       together (is_ordered told && is_within clafers scopes told && is_tree clafers told) (has_shape clafers scopes told)
       (together (is_ordered told && is_within clafers scopes told) (is_tree clafers told)
-      (together (is_ordered told) (is_within clafers scopes told) (subst (λ es. is_ordered es ≡ true) same w.shows.ordered) (subst (λ es. is_within clafers scopes es ≡ true) same w.shows.within)) tree) shape;
-  parents = steps_of (owners clafers) layout layout.parents bits f.parents pair.0 (both (have_taken (λ c. is_some (parent_of clafers c)) layout layout.parents bits) (lead_to_live layout layout.parents bits) parents).1;
-  targets = steps_of (referred clafers) layout layout.targets bits f.targets pair.1 (both (have_taken (λ c. is_some (target_of clafers c)) layout layout.targets bits) (lead_to_live layout layout.targets bits) targets).1;
+      (together (is_ordered told) (is_within clafers scopes told) (subst (λ es. is_ordered es ≡ true) same w.shows.ordered)
+      (subst (λ es. is_within clafers scopes es ≡ true) same w.shows.within)) tree) shape;
+  parents = steps_of (owners clafers) layout layout.parents bits f.parents pair.0
+      (both (have_taken (λ c. is_some (parent_of clafers c)) layout layout.parents bits)
+      (lead_to_live layout layout.parents bits) parents).1;
+  targets = steps_of (referred clafers) layout layout.targets bits f.targets pair.1
+      (both (have_taken (λ c. is_some (target_of clafers c)) layout layout.targets bits)
+      (lead_to_live layout layout.targets bits) targets).1;
 }
   where
     told : List Entry
     told = shown layout bits
 
     bounds : Bool
-    bounds = list_all (λ c. option_map_or (λ k. meets_times clafers told c k && meets_group clafers told c k) (slice_get clafers c) true) (numbers_below (length clafers))
+    bounds = list_all (λ c. option_map_or (λ k. meets_times clafers told c k && meets_group clafers told c k) (slice_get clafers c) true)
+        (numbers_below (length clafers))
 
     references : Bool
     references = list_all (meets_reference clafers told scopes) told
@@ -87,12 +96,15 @@ setting_of clafers scopes layout bits f w = record {
     consistent = shown_bits_consistent clafers scopes layout bits w.entries f w.shows
 
     pair : (are_edges layout layout.parents bits ≡ true) × (are_edges layout layout.targets bits ≡ true)
-    pair = both (are_edges layout layout.parents bits) (are_edges layout layout.targets bits) (both (are_edges layout layout.parents bits && are_edges layout layout.targets bits) (are_integers scopes layout bits) consistent).0
+    pair = both (are_edges layout layout.parents bits) (are_edges layout layout.targets bits)
+        (both (are_edges layout layout.parents bits && are_edges layout layout.targets bits) (are_integers scopes layout bits) consistent).0
 
     parents : have_parents clafers layout bits ≡ true
     parents =
         parents_told clafers scopes layout bits f consistent
-        ∙ all_second (λ (e : Entry). list_all (λ n. is_concrete clafers n.clafer) (named_by e)) (has_its_parent clafers told) (λ (e : Entry). ends_within (length told) told e.parent) told tree
+        ∙ all_second (λ (e : Entry). list_all (λ n. is_concrete clafers n.clafer) (named_by e)) (has_its_parent clafers told)
+        (λ (e : Entry). ends_within (length told) told e.parent) told tree
 
     targets : have_targets clafers layout bits ≡ true
-    targets = targets_told clafers scopes layout bits f consistent ∙ (both bounds references (both (bounds && references) (each_two (differ clafers told) told) shape).0).1
+    targets = targets_told clafers scopes layout bits f consistent
+        ∙ (both bounds references (both (bounds && references) (each_two (differ clafers told) told) shape).0).1

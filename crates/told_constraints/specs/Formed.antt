@@ -20,7 +20,8 @@ is_formed (c.Union ks a b) n = each_two nat_lt ks && (is_set (sort a) && (is_set
 is_formed (c.Minus ks a b) n = each_two nat_lt ks && (is_set (sort a) && (is_set (sort b) && (is_formed a n && is_formed b n)))
 is_formed (c.Meet ks a b) n = each_two nat_lt ks && (is_set (sort a) && (is_set (sort b) && (is_formed a n && is_formed b n)))
 is_formed (c.ChooseNodes ks t a b) n =
-    each_two nat_lt ks && (is_test (sort t) && (is_set (sort a) && (is_set (sort b) && (is_formed t n && (is_formed a n && is_formed b n)))))
+    each_two nat_lt ks
+    && (is_test (sort t) && (is_set (sort a) && (is_set (sort b) && (is_formed t n && (is_formed a n && is_formed b n)))))
 is_formed (c.Const w z) n = is_width w
 is_formed (c.Count w a) n = is_width w && (is_set (sort a) && is_formed a n)
 is_formed (c.Total w a) n = is_width w && (is_set (sort a) && is_formed a n)
@@ -28,12 +29,14 @@ is_formed (c.Neg w a) n = is_width w && (is_number (sort a) && is_formed a n)
 is_formed (c.Add w a b) n = is_width w && (is_number (sort a) && (is_number (sort b) && (is_formed a n && is_formed b n)))
 is_formed (c.Mul w a b) n = is_width w && (is_number (sort a) && (is_number (sort b) && (is_formed a n && is_formed b n)))
 is_formed (c.ChooseNumber w t a b) n =
-    is_width w && (is_test (sort t) && (is_number (sort a) && (is_number (sort b) && (is_formed t n && (is_formed a n && is_formed b n)))))
+    is_width w
+    && (is_test (sort t) && (is_number (sort a) && (is_number (sort b) && (is_formed t n && (is_formed a n && is_formed b n)))))
 is_formed (c.Not a) n = is_test (sort a) && is_formed a n
 is_formed (c.And a b) n = is_test (sort a) && (is_test (sort b) && (is_formed a n && is_formed b n))
 is_formed (c.Or a b) n = is_test (sort a) && (is_test (sort b) && (is_formed a n && is_formed b n))
 is_formed (c.Xor a b) n = is_test (sort a) && (is_test (sort b) && (is_formed a n && is_formed b n))
-is_formed (c.ChooseTruth t a b) n = is_test (sort t) && (is_test (sort a) && (is_test (sort b) && (is_formed t n && (is_formed a n && is_formed b n))))
+is_formed (c.ChooseTruth t a b) n =
+    is_test (sort t) && (is_test (sort a) && (is_test (sort b) && (is_formed t n && (is_formed a n && is_formed b n))))
 is_formed (c.SameNodes a b) n = is_set (sort a) && (is_set (sort b) && (is_formed a n && is_formed b n))
 is_formed (c.WithinNodes a b) n = is_set (sort a) && (is_set (sort b) && (is_formed a n && is_formed b n))
 is_formed (c.SameValues a b) n = not (is_test (sort a)) && (not (is_test (sort b)) && (is_formed a n && is_formed b n))
@@ -42,4 +45,5 @@ is_formed (c.Less a b) n = is_number (sort a) && (is_number (sort b) && (is_form
 is_formed (c.AtLeast k a) n = nat_lt k 2 && (is_set (sort a) && is_formed a n)
 is_formed (c.AtMost k a) n = nat_lt k 2 && (is_set (sort a) && is_formed a n)
 is_formed (c.Exactly k a) n = nat_lt k 2 && (is_set (sort a) && is_formed a n)
-is_formed (c.Quant word disj names over body) n = is_set (sort over) && (is_test (sort body) && (is_formed over n && is_formed body (n + names)))
+is_formed (c.Quant word disj names over body) n =
+    is_set (sort over) && (is_test (sort body) && (is_formed over n && is_formed body (n + names)))

@@ -1,5 +1,5 @@
 -- What the bits of a layout tell of a relational expression.
-use Rattle.std.specs.Prelude.{ℕ, ◌==◌, ◌&&◌, ◌||◌, Bool, true, false, not, List, [], ◌∷◌, ◌++◌, length, map, nat_eq, nat_lt, nat_le, count_by, ℤ, pos, ◌+ℤ◌, ◌*ℤ◌, neg_ℤ, int_lt, if◌then◌else◌}
+use Rattle.std.specs.Prelude.{ℕ, ◌==◌, ◌&&◌, ◌||◌, Bool, false, not, List, [], ◌∷◌, ◌++◌, length, map, nat_eq, nat_lt, nat_le, count_by, ℤ, pos, ◌+ℤ◌, ◌*ℤ◌, neg_ℤ, int_lt, if◌then◌else◌}
 use Rattle.std.specs.Ordering.{int_eq}
 use Rattle.std.specs.Option.{option_map_or}
 use Rattle.std.specs.List.{filter, list_any, list_all}
@@ -87,7 +87,9 @@ module _ (layout : Layout) (bits : List Bool) where
   told (c.Union ks a b) at = Set (λ s. is_listed layout ks s && (told_set (told a at) s || told_set (told b at) s))
   told (c.Minus ks a b) at = Set (λ s. is_listed layout ks s && (told_set (told a at) s && not (told_set (told b at) s)))
   told (c.Meet ks a b) at = Set (λ s. is_listed layout ks s && (told_set (told a at) s && told_set (told b at) s))
-  told (c.ChooseNodes ks t a b) at = Set (λ s. is_listed layout ks s && (if told_truth (told t at) then told_set (told a at) s else told_set (told b at) s))
+  told (c.ChooseNodes ks t a b) at =
+      Set (λ s. is_listed layout ks s
+      && (if told_truth (told t at) then told_set (told a at) s else told_set (told b at) s))
   told (c.Const w z) at = Number (if holds_integer w z then z else pos 0)
   told (c.Count w a) at = Number (cut w (pos (length (members layout (told_set (told a at))))))
   told (c.Total w a) at = Number (cut w (total (map (slot_integer layout bits) (members layout (told_set (told a at))))))

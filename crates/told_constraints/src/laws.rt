@@ -18,12 +18,27 @@ ghost use Rattle.told_constraints.specs.Told.{told, told_set, told_number, told_
 
 /// A sound expression is formed.
 pub fn sound_expressions_are_formed()
-    ensures { (clafers : List Clafer) (scopes : Scopes) (a : Core) (given : List (List ℕ)) → Sound clafers scopes a given → IsTrue (is_formed a (length given)) }
+    ensures { (clafers : List Clafer) (scopes : Scopes) (a : Core) (given : List (List ℕ)) → Sound clafers scopes a given
+        → IsTrue (is_formed a (length given)) }
 {}
 
-/// At bits that show a tree of the right shape, with live bound slots of the given clafers, a sound expression means what the bits tell: its nodes are those of the slots, its number and its truth are the same.
+/// At bits that show a tree of the right shape, with live bound slots of the given clafers, a sound expression means what the bits tell:
+/// its nodes are those of the slots, its number and its truth are the same.
 pub fn bits_tell_the_meaning()
-    ensures nodes { (clafers : List Clafer) (scopes : Scopes) (layout : Layout) (bits : List Bool) (a : Core) (given : List (List ℕ)) (bound : List ℕ) → Fits clafers scopes layout → IsTrue (abstract_are_empty clafers scopes) → ShowsShaped clafers scopes layout bits → Sound clafers scopes a given → IsTrue (stand_for layout bits given bound) → IsTrue (is_set (sort a)) → nodes_at layout (members layout (told_set (told layout bits a bound))) ≡ nodes (meaning (shown layout bits) a (nodes_at layout bound)) }
-    ensures numbers { (clafers : List Clafer) (scopes : Scopes) (layout : Layout) (bits : List Bool) (a : Core) (given : List (List ℕ)) (bound : List ℕ) → Fits clafers scopes layout → IsTrue (abstract_are_empty clafers scopes) → ShowsShaped clafers scopes layout bits → Sound clafers scopes a given → IsTrue (stand_for layout bits given bound) → IsTrue (is_number (sort a)) → told_number (told layout bits a bound) ≡ integer_in (meaning (shown layout bits) a (nodes_at layout bound)) }
-    ensures truths { (clafers : List Clafer) (scopes : Scopes) (layout : Layout) (bits : List Bool) (a : Core) (given : List (List ℕ)) (bound : List ℕ) → Fits clafers scopes layout → IsTrue (abstract_are_empty clafers scopes) → ShowsShaped clafers scopes layout bits → Sound clafers scopes a given → IsTrue (stand_for layout bits given bound) → IsTrue (is_test (sort a)) → told_truth (told layout bits a bound) ≡ truth_in (meaning (shown layout bits) a (nodes_at layout bound)) }
+    ensures nodes { (clafers : List Clafer) (scopes : Scopes) (layout : Layout) (bits : List Bool) (a : Core)
+        (given : List (List ℕ)) (bound : List ℕ)
+        → Fits clafers scopes layout → IsTrue (abstract_are_empty clafers scopes) → ShowsShaped clafers scopes layout bits
+        → Sound clafers scopes a given → IsTrue (stand_for layout bits given bound) → IsTrue (is_set (sort a))
+        → nodes_at layout (members layout (told_set (told layout bits a bound)))
+        ≡ nodes (meaning (shown layout bits) a (nodes_at layout bound)) }
+    ensures numbers { (clafers : List Clafer) (scopes : Scopes) (layout : Layout) (bits : List Bool) (a : Core)
+        (given : List (List ℕ)) (bound : List ℕ)
+        → Fits clafers scopes layout → IsTrue (abstract_are_empty clafers scopes) → ShowsShaped clafers scopes layout bits
+        → Sound clafers scopes a given → IsTrue (stand_for layout bits given bound) → IsTrue (is_number (sort a))
+        → told_number (told layout bits a bound) ≡ integer_in (meaning (shown layout bits) a (nodes_at layout bound)) }
+    ensures truths { (clafers : List Clafer) (scopes : Scopes) (layout : Layout) (bits : List Bool) (a : Core)
+        (given : List (List ℕ)) (bound : List ℕ)
+        → Fits clafers scopes layout → IsTrue (abstract_are_empty clafers scopes) → ShowsShaped clafers scopes layout bits
+        → Sound clafers scopes a given → IsTrue (stand_for layout bits given bound) → IsTrue (is_test (sort a))
+        → told_truth (told layout bits a bound) ≡ truth_in (meaning (shown layout bits) a (nodes_at layout bound)) }
 {}

@@ -1,0 +1,4 @@
+pub mod Gathering
+pub mod Leaves
+pub mod Listing
+pub mod Tables
