@@ -1,0 +1,9 @@
+mod Staying
+mod Forms
+mod Sides
+mod Tuples
+mod Shown
+mod Tested
+mod Cores
+mod Parts
+mod Arms

@@ -1,0 +1,11 @@
+mod Choosing
+mod Deciding
+mod Inputs
+mod Known
+mod Posed
+mod Rows
+mod Ruling
+mod Shaped
+mod Structuring
+mod Units
+mod Weighing

@@ -1,0 +1,19 @@
+//! Questions about the instances of a model.
+//!
+//! A `Space` has the structure and the constraints of a model on wires. `ask` gives the question to the certified solver as clauses, and
+//! answers with an instance, with a refutation that a checker has accepted, or with a derivation on which the budget is spent.
+#![tactic(auto)]
+
+mod claims;
+mod encoded;
+mod laws;
+mod posing;
+mod rules;
+mod space;
+mod spending;
+mod verdicts;
+
+pub use claims::{Answer, Claim};
+pub use laws::questions_are_within_the_weight;
+pub use space::Space;
+pub use spending::Spending;
