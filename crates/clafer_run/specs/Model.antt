@@ -1,56 +1,52 @@
 -- The outcome for a model text within the limit.
-use Rattle.std.specs.Prelude.{◌≡◌, ◌==◌, ℕ, ◌<◌, ◌≤◌, Bool, true, false, List, count_by}
+use Rattle.std.specs.Prelude.{◌≡◌, ℕ, List, Option, None, Some}
 use Rattle.clf_base.specs.declared.fault.Refusal.{Refusal}
 use Rattle.clf_base.specs.declared.status.Status.{Status}
-use Rattle.clf_base.specs.declared.status.Status.TheVariants.{Done, NoInstance, Refused}
-use Rattle.clf_tree.specs.declared.model.Model.{Model}
+use Rattle.clf_base.specs.declared.status.Status.TheVariants.{Done, NoInstance, Refused, Unfinished}
 use Rattle.clf_tree.specs.declared.instance.Entry.{Entry}
 use Rattle.command_words.specs.declared.reading.Request.{Request}
 use Rattle.model_reader.specs.declared.reader.Read.{Read}
 use Rattle.model_reader.specs.Reading.{IsReadOf, IsRefused}
-use Rattle.feature_trial.specs.FirstShape.{has_first_shape}
-use Rattle.feature_trial.specs.Trial.{IsInstance, HasNone}
-use Rattle.clafer_run.specs.declared.answer.TheConstants.{MOST_OPTIONAL}
-use Rattle.clafer_run.specs.Refusals.{error_line, nowhere}
-use Rattle.clafer_run.specs.Report.{instance_report, no_instance_report}
+use Rattle.question_space.specs.declared.spending.Spending.{Spending}
+use Rattle.any_instance.specs.Settled.{IsInstance, IsRefuted, IsSpentOn}
+use Rattle.clafer_run.specs.declared.ending.Ending.{Ending}
+use Rattle.clafer_run.specs.Refusals.{error_line}
+use Rattle.clafer_run.specs.Report.{instance_report, no_instance_report, spent_report}
 
--- the clafers with multiplicity 0..1
-abbrev pub optional_count : Model → ℕ
-optional_count model = count_by (λ k. k.times.low == 0) model.clafers
+-- the status alone, with nothing handed back
+pub record IsBare (ending : Ending) (status : Status) : Type 0 where
+  pub status_is : ending.status ≡ status
+  pub nothing_spent : ending.spent ≡ None
+  pub nothing_closed : ending.closed ≡ None
 
--- the output and the status for a refusal
-abbrev pub IsTold : Refusal → List ℕ → Status → Type 0
-IsTold refusal output status = (output ≡ error_line refusal) × (status ≡ Refused)
+-- the output and the ending for a refusal
+abbrev pub IsTold : Refusal → List ℕ → Ending → Type 0
+IsTold refusal output ending = (output ≡ error_line refusal) × IsBare ending Refused
 
--- an accepted model of another shape than the first
-abbrev pub not_built : Refusal
-not_built = nowhere 99 0
+-- there is an instance, and its tree is told
+pub record TellsInstance (read : Read) (output : List ℕ) : Type 0 where
+  pub entries : List Entry
+  pub instance : IsInstance read.model read.scopes entries
+  pub told : output ≡ instance_report read.model read.scopes entries
 
--- so many optional clafers
-abbrev pub too_many : ℕ → Refusal
-too_many optional = nowhere 95 optional
+-- what a model's output, status and what is handed back say: an instance, or none with a closing, or a spent budget with a spending
+abbrev pub OneOutcome : Request → Read → List ℕ → Status → Option Spending → Option Spending → Type 0
+OneOutcome request read output Done None None = TellsInstance read output
+OneOutcome request read output NoInstance None (Some closed) =
+    IsRefuted read closed × (output ≡ no_instance_report read.model read.scopes)
+OneOutcome request read output Unfinished (Some spent) None =
+    IsSpentOn read request.budget spent × (output ≡ spent_report read.model read.scopes)
+OneOutcome request read output _ _ _ = ⊥
 
--- the output and the status for a model: it has too many choices, or an instance, or none
-abbrev pub IsAnswerOf : Read → List ℕ → Status → Type 0
-IsAnswerOf read output Refused = (MOST_OPTIONAL < optional_count read.model) × (output ≡ error_line (too_many (optional_count read.model)))
-IsAnswerOf read output Done =
-    (optional_count read.model ≤ MOST_OPTIONAL) × ((entries : List Entry) × IsInstance read.model read.scopes entries × (output ≡ instance_report read.model read.scopes entries))
-IsAnswerOf read output NoInstance =
-    (optional_count read.model ≤ MOST_OPTIONAL) × HasNone read.model read.scopes × (output ≡ no_instance_report read.model read.scopes)
-IsAnswerOf read output _ = ⊥
+abbrev pub ReadOutcome : Request → Read → List ℕ → Ending → Type 0
+ReadOutcome request read output ending = OneOutcome request read output ending.status ending.spent ending.closed
 
--- the output and the status for a model that is of the first shape, with each clafer at most once, or isn't
-abbrev pub ShapeOutcome : Bool → Read → List ℕ → Status → Type 0
-ShapeOutcome true read output status = IsAnswerOf read output status
-ShapeOutcome false read output status = IsTold not_built output status
+-- the output and the ending for a text within the limit: that of its first refusal, or else that of what it is read as
+pub data TextReading (request : Request) (text : List ℕ) (output : List ℕ) (ending : Ending) : Type 0 where
+  refused : (refusal : Refusal) → IsRefused text request.given refusal → IsTold refusal output ending
+      → TextReading request text output ending
+  read : (found : Read) → IsReadOf text request.given found → ReadOutcome request found output ending
+      → TextReading request text output ending
 
-abbrev pub ReadOutcome : Read → List ℕ → Status → Type 0
-ReadOutcome read output status = ShapeOutcome (has_first_shape read.model read.scopes) read output status
-
--- the output and the status for a text within the limit: that of its first refusal, or else that of what it is read as
-pub data TextReading (request : Request) (text : List ℕ) (output : List ℕ) (status : Status) : Type 0 where
-  refused : (refusal : Refusal) → IsRefused text request.given refusal → IsTold refusal output status → TextReading request text output status
-  read : (found : Read) → IsReadOf text request.given found → ReadOutcome found output status → TextReading request text output status
-
-unfoldable pub ModelOutcome : Request → List ℕ → List ℕ → Status → Type 0
-ModelOutcome request text output status = TextReading request text output status
+unfoldable pub ModelOutcome : Request → List ℕ → List ℕ → Ending → Type 0
+ModelOutcome request text output ending = TextReading request text output ending

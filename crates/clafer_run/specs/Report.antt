@@ -33,4 +33,8 @@ abbrev pub instance_report : Model → Scopes → List Entry → List ℕ
 instance_report model scopes entries = head model.clafers scopes ++ codes "instance\n" ++ show model entries
 
 abbrev pub no_instance_report : Model → Scopes → List ℕ
-no_instance_report model scopes = head model.clafers scopes ++ codes "no instance\n"
+no_instance_report model scopes = head model.clafers scopes ++ codes "no instance\nclaims 1\n"
+
+-- the head, and that the budget is spent before any instance was found
+abbrev pub spent_report : Model → Scopes → List ℕ
+spent_report model scopes = head model.clafers scopes ++ codes "unfinished E100 0\nclaims 0\n"

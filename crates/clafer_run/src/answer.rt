@@ -1,116 +1,151 @@
 //! The answer to a model text.
 
-ghost use Rattle.std.specs.Prelude.{◌≡◌, ◌≤◌, length, IfOk, IsTrue};
+ghost use Rattle.std.specs.Prelude.{◌≤◌, length, IfOk};
 ghost use Rattle.clf_base.specs.Status.{number_of};
-ghost use Rattle.feature_trial.specs.FirstShape as shape;
-ghost use Rattle.clafer_run.specs.Model.{ModelOutcome, ReadOutcome, IsAnswerOf, IsTold, optional_count};
+ghost use Rattle.command_words.specs.Words.{IsBudget};
+ghost use Rattle.any_instance.specs.Settled.{IsInstance, IsRefuted, IsSpentOn};
+ghost use Rattle.clafer_run.specs.Model.{ModelOutcome, ReadOutcome, IsTold};
 
-use crate::refusals::{error_line, nowhere};
-use crate::report::{instance_report, no_instance_report};
+use crate::ending::Ending;
+use crate::refusals::error_line;
+use crate::report::{instance_report, no_instance_report, spent_report};
 use crate::{LIMIT, Request};
+use any_instance::{Known, ask};
 use clf_base::{Fault, List, NoMemory, Refusal, Status};
-use clf_tree::Model;
-use feature_trial::{has_first_shape, trial};
+use clf_tree::Instance;
 use model_reader::{Read, read_model};
+use question_space::Spending;
+use search_guide::Guide;
 use std::alloc::Global;
 
-/// The most optional features whose choices are tried.
-pub(crate) const MOST_OPTIONAL: usize = 16;
-
-/// An output, and the status that goes with it.
-#[derive(Debug, Drop)]
-pub struct Answer {
-    pub status: Status,
-    pub output: List<u8>,
+/// An output, and the ending that goes with it.
+#[derive(Drop)]
+pub(crate) struct Reply {
+    pub(crate) ending: Ending,
+    pub(crate) output: List<u8>,
 }
 
 /// The answer to a text within the limit.
 #[tactic(auto, unfolding(crate::specs::Model::ModelOutcome))]
-pub(crate) fn answer_to(alloc: Global, request: &Request, text: &[u8]) -> Result<Answer, NoMemory>
-    requires { length text.now ≤ LIMIT }
-    ensures outcome { IfOk result (λ answer. ModelOutcome request.now text.now answer.output answer.status) }
-    ensures in_range { IfOk result (λ answer. number_of answer.status ≤ 4) }
+pub(crate) fn answer_to(
+    alloc: Global,
+    request: &Request,
+    text: &[u8],
+    guide: &Guide,
+) -> Result<Reply, NoMemory>
+    requires short { length text.now ≤ LIMIT }
+    requires budget { IsBudget request.now.budget }
+    ensures outcome { IfOk result (λ reply. ModelOutcome request.now text.now reply.output reply.ending) }
+    ensures in_range { IfOk result (λ reply. number_of reply.ending.status ≤ 4) }
 {
     match read_model(alloc, text, &request.given) {
         Ok(read) => {
-            let answer = answer_of_read(alloc, &read)?;
-            Ok(answer)
+            let reply = answer_of_read(alloc, request, &read, guide)?;
+            Ok(reply)
         }
         Err(Fault::Refused(refusal)) => {
-            let answer = told(alloc, refusal)?;
-            Ok(answer)
+            let reply = told(alloc, refusal)?;
+            Ok(reply)
         }
         Err(Fault::NoMemory) => Err(NoMemory),
     }
 }
 
 /// The answer to a refusal.
-pub(crate) fn told(alloc: Global, refusal: Refusal) -> Result<Answer, NoMemory>
-    ensures told { IfOk result (λ answer. IsTold refusal answer.output answer.status) }
-    ensures in_range { IfOk result (λ answer. number_of answer.status ≤ 4) }
+pub(crate) fn told(alloc: Global, refusal: Refusal) -> Result<Reply, NoMemory>
+    ensures told { IfOk result (λ reply. IsTold refusal reply.output reply.ending) }
+    ensures in_range { IfOk result (λ reply. number_of reply.ending.status ≤ 4) }
 {
     let output = error_line(alloc, refusal)?;
-    Ok(Answer {
-        status: Status::Refused,
+    Ok(Reply {
+        ending: Ending {
+            status: Status::Refused,
+            spent: None,
+            closed: None,
+        },
         output,
     })
 }
 
 /// The answer to a model that was read.
-fn answer_of_read(alloc: Global, read: &Read) -> Result<Answer, NoMemory>
-    ensures outcome { IfOk result (λ answer. ReadOutcome read.now answer.output answer.status) }
-    ensures in_range { IfOk result (λ answer. number_of answer.status ≤ 4) }
+fn answer_of_read(
+    alloc: Global,
+    request: &Request,
+    read: &Read,
+    guide: &Guide,
+) -> Result<Reply, NoMemory>
+    requires { IsBudget request.now.budget }
+    ensures outcome { IfOk result (λ reply. ReadOutcome request.now read.now reply.output reply.ending) }
+    ensures in_range { IfOk result (λ reply. number_of reply.ending.status ≤ 4) }
 {
-    if has_first_shape(read) {
-        let answer = answer_of(alloc, read)?;
-        Ok(answer)
-    } else {
-        let answer = told(alloc, nowhere(99, 0))?;
-        Ok(answer)
-    }
-}
-
-/// The answer to a model of the first shape.
-fn answer_of(alloc: Global, read: &Read) -> Result<Answer, NoMemory>
-    requires { IsTrue (shape.has_first_shape read.now.model read.now.scopes) }
-    ensures outcome { IfOk result (λ answer. IsAnswerOf read.now answer.output answer.status) }
-    ensures in_range { IfOk result (λ answer. number_of answer.status ≤ 4) }
-{
-    let model = read.model.model();
-    let optional = optional_count(model);
-    if optional > MOST_OPTIONAL {
-        let output = error_line(alloc, nowhere(95, optional as u64))?;
-        return Ok(Answer {
-            status: Status::Refused,
-            output,
-        });
-    }
-    match trial(alloc, read)? {
-        Some(instance) => {
-            let output = instance_report(alloc, model, &read.scopes, &instance)?;
-            Ok(Answer {
-                status: Status::Done,
-                output,
-            })
+    match ask(alloc, read, request.budget, guide, request.seed)? {
+        Known::Instance(instance) => {
+            let reply = found(alloc, request, read, &instance)?;
+            Ok(reply)
         }
-        None => {
-            let output = no_instance_report(alloc, model, &read.scopes)?;
-            Ok(Answer {
-                status: Status::NoInstance,
-                output,
-            })
+        Known::Closed(left) => {
+            let reply = closed(alloc, request, read, left)?;
+            Ok(reply)
+        }
+        Known::Spent(left) => {
+            let reply = spent(alloc, request, read, left)?;
+            Ok(reply)
         }
     }
 }
 
-/// How many features are optional.
-fn optional_count(model: &Model) -> usize
-    ensures { result ≡ optional_count model.now }
+/// The answer with an instance.
+fn found(
+    alloc: Global,
+    request: &Request,
+    read: &Read,
+    instance: &Instance,
+) -> Result<Reply, NoMemory>
+    requires { IsInstance read.now.model read.now.scopes instance.now.entries }
+    ensures outcome { IfOk result (λ reply. ReadOutcome request.now read.now reply.output reply.ending) }
+    ensures in_range { IfOk result (λ reply. number_of reply.ending.status ≤ 4) }
 {
-    model
-        .clafers
-        .as_slice()
-        .iter()
-        .filter(|clafer| clafer.times.low == 0)
-        .count()
+    let output = instance_report(alloc, read.model.model(), &read.scopes, instance)?;
+    Ok(Reply {
+        ending: Ending {
+            status: Status::Done,
+            spent: None,
+            closed: None,
+        },
+        output,
+    })
+}
+
+/// The answer that there is no instance.
+fn closed(alloc: Global, request: &Request, read: &Read, left: Spending) -> Result<Reply, NoMemory>
+    requires { IsRefuted read.now left }
+    ensures outcome { IfOk result (λ reply. ReadOutcome request.now read.now reply.output reply.ending) }
+    ensures in_range { IfOk result (λ reply. number_of reply.ending.status ≤ 4) }
+{
+    let output = no_instance_report(alloc, read.model.model(), &read.scopes)?;
+    Ok(Reply {
+        ending: Ending {
+            status: Status::NoInstance,
+            spent: None,
+            closed: Some(left),
+        },
+        output,
+    })
+}
+
+/// The answer that the budget is spent.
+fn spent(alloc: Global, request: &Request, read: &Read, left: Spending) -> Result<Reply, NoMemory>
+    requires { IsSpentOn read.now request.now.budget left }
+    ensures outcome { IfOk result (λ reply. ReadOutcome request.now read.now reply.output reply.ending) }
+    ensures in_range { IfOk result (λ reply. number_of reply.ending.status ≤ 4) }
+{
+    let output = spent_report(alloc, read.model.model(), &read.scopes)?;
+    Ok(Reply {
+        ending: Ending {
+            status: Status::Unfinished,
+            spent: Some(left),
+            closed: None,
+        },
+        output,
+    })
 }

@@ -2,6 +2,7 @@
 #![tactic(auto)]
 
 mod answer;
+mod ending;
 mod input;
 mod output;
 mod refusals;
@@ -9,8 +10,8 @@ mod report;
 mod respond;
 mod top_call;
 
-pub use answer::Answer;
 pub use command_words::{Request, words_of};
+pub use ending::Ending;
 pub use model_reader::LIMIT;
 pub use top_call::run;
 

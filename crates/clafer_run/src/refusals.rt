@@ -10,7 +10,7 @@ use itoa::Buffer;
 use std::alloc::Global;
 
 /// What is wrong, by its code.
-pub static REASONS: [(u16, &[u8]); 39] = [
+pub static REASONS: [(u16, &[u8]); 37] = [
     (10, b"text too long"),
     (11, b"text is not UTF-8"),
     (20, b"no token"),
@@ -48,8 +48,6 @@ pub static REASONS: [(u16, &[u8]); 39] = [
     (90, b"integer interval too wide"),
     (91, b"model too heavy"),
     (92, b"too many goals"),
-    (95, b"too many optional clafers"),
-    (99, b"form not built yet"),
 ];
 
 /// The text of the first entry with this code.

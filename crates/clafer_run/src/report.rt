@@ -116,7 +116,7 @@ pub(crate) fn instance_report(
     Ok(text)
 }
 
-/// The report that there is no instance.
+/// The report that there is no instance, which is one claim.
 pub(crate) fn no_instance_report(
     alloc: Global,
     model: &Model,
@@ -125,6 +125,19 @@ pub(crate) fn no_instance_report(
     ensures { IfOk result (λ text. text ≡ spec.no_instance_report model.now scopes.now) }
 {
     let mut text = head(alloc, model.clafers.as_slice(), scopes)?;
-    text.extend(b"no instance\n")?;
+    text.extend(b"no instance\nclaims 1\n")?;
+    Ok(text)
+}
+
+/// The report that the budget is spent.
+pub(crate) fn spent_report(
+    alloc: Global,
+    model: &Model,
+    scopes: &Scopes,
+) -> Result<List<u8>, NoMemory>
+    ensures { IfOk result (λ text. text ≡ spec.spent_report model.now scopes.now) }
+{
+    let mut text = head(alloc, model.clafers.as_slice(), scopes)?;
+    text.extend(b"unfinished E100 0\nclaims 0\n")?;
     Ok(text)
 }

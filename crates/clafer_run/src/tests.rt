@@ -1,5 +1,6 @@
 use crate::run;
 use clf_base::{List, MemorySink, MemorySource, Source, Status, StdSink, StdSource};
+use search_guide::Guide;
 use std::alloc::{AllocError, Global};
 use std::io;
 use std::io::{ErrorKind, Read, Write};
@@ -21,7 +22,7 @@ struct Case {
     output: &'static [u8],
 }
 
-const CASES: [Case; 18] = [
+const CASES: [Case; 17] = [
     // the empty text has the empty instance
     Case {
         words: &["one"],
@@ -41,7 +42,7 @@ const CASES: [Case; 18] = [
         words: &["one"],
         text: b"a\n    b ?\n    [ b ]\n    [ !b ]\n",
         status: Status::NoInstance,
-        output: b"scopes 2\na 1\na.b 1\nints -2048..2047\nno instance\n",
+        output: b"scopes 2\na 1\na.b 1\nints -2048..2047\nno instance\nclaims 1\n",
     },
     // a feature below a missing one is missing, whether it is optional or not
     Case {
@@ -90,12 +91,12 @@ const CASES: [Case; 18] = [
         status: Status::Refused,
         output: b"error E062 2:7 0 name not found\n",
     },
-    // a clafer with more than one instance
+    // a clafer with two instances
     Case {
         words: &["one"],
-        text: b"a *\n",
-        status: Status::Refused,
-        output: b"error E099 0:0 0 form not built yet\n",
+        text: b"a 2\n",
+        status: Status::Done,
+        output: b"scopes 1\na 2\nints -2048..2047\ninstance\na$0\na$1\n",
     },
     // a given range of integers, and a given scope
     Case {
@@ -138,18 +139,12 @@ const CASES: [Case; 18] = [
         status: Status::Refused,
         output: b"error E042 1:1 0 word is left out\n",
     },
-    // seventeen optional features
-    Case {
-        words: &["one"],
-        text: b"a\n    b ?\n    c ?\n    d ?\n    e ?\n    f ?\n    g ?\n    h ?\n    i ?\n    j ?\n    k ?\n    l ?\n    m ?\n    n ?\n    o ?\n    p ?\n    q ?\n    r ?\n",
-        status: Status::Refused,
-        output: b"error E095 0:0 17 too many optional clafers\n",
-    },
 ];
 
 #[test]
 fn answers_with_ample_memory(rt: HostRuntime) -> Result<(), Fail> {
     let alloc = rt.alloc();
+    let guide = Guide::new(Box::new(alloc, |_seed: u64, _turn: u64, _n: u32| 0)?);
     for case in &CASES {
         let words = words_of_texts(alloc, case.words)?;
         let mut source = MemorySource::new(
@@ -158,7 +153,7 @@ fn answers_with_ample_memory(rt: HostRuntime) -> Result<(), Fail> {
             List::new(alloc),
         );
         let mut sink = MemorySink::new(alloc, 256, 5, List::new(alloc))?;
-        let status = run(alloc, &words, &mut source, &mut sink);
+        let status = run(alloc, &words, &mut source, &mut sink, &guide).status;
         assert_eq!(rt; status, case.status);
         assert_eq!(rt; sink.bytes(), case.output);
     }
@@ -168,10 +163,11 @@ fn answers_with_ample_memory(rt: HostRuntime) -> Result<(), Fail> {
 #[test]
 fn words_without_a_reading_leave_the_source(rt: HostRuntime) -> Result<(), Fail> {
     let alloc = rt.alloc();
+    let guide = Guide::new(Box::new(alloc, |_seed: u64, _turn: u64, _n: u32| 0)?);
     let words = words_of_texts(alloc, &["one", "two"])?;
     let mut source = MemorySource::new(List::from_slice(alloc, b"a\n")?, 8, List::new(alloc));
     let mut sink = MemorySink::new(alloc, 64, 64, List::new(alloc))?;
-    let status = run(alloc, &words, &mut source, &mut sink);
+    let status = run(alloc, &words, &mut source, &mut sink, &guide).status;
     assert_eq!(rt; status, Status::BadWords);
     let mut out = [0; 8];
     let count = source.read(&mut out)?;
@@ -182,11 +178,12 @@ fn words_without_a_reading_leave_the_source(rt: HostRuntime) -> Result<(), Fail>
 #[test]
 fn a_read_fault_writes_nothing(rt: HostRuntime) -> Result<(), Fail> {
     let alloc = rt.alloc();
+    let guide = Guide::new(Box::new(alloc, |_seed: u64, _turn: u64, _n: u32| 0)?);
     let words = words_of_texts(alloc, &["one"])?;
     let failing = List::from_slice(alloc, &[1])?;
     let mut source = MemorySource::new(List::from_slice(alloc, b"a\n    b ?\n")?, 8, failing);
     let mut sink = MemorySink::new(alloc, 64, 64, List::new(alloc))?;
-    let status = run(alloc, &words, &mut source, &mut sink);
+    let status = run(alloc, &words, &mut source, &mut sink, &guide).status;
     assert_eq!(rt; status, Status::ReadFault);
     assert_eq!(rt; sink.bytes(), b"".as_slice());
     Ok(())
@@ -195,11 +192,12 @@ fn a_read_fault_writes_nothing(rt: HostRuntime) -> Result<(), Fail> {
 #[test]
 fn a_write_fault_leaves_a_prefix(rt: HostRuntime) -> Result<(), Fail> {
     let alloc = rt.alloc();
+    let guide = Guide::new(Box::new(alloc, |_seed: u64, _turn: u64, _n: u32| 0)?);
     let words = words_of_texts(alloc, &["one"])?;
     let mut source = MemorySource::new(List::new(alloc), 8, List::new(alloc));
     let failing = List::from_slice(alloc, &[1])?;
     let mut sink = MemorySink::new(alloc, 64, 7, failing)?;
-    let status = run(alloc, &words, &mut source, &mut sink);
+    let status = run(alloc, &words, &mut source, &mut sink, &guide).status;
     assert_eq!(rt; status, Status::WriteFault);
     assert_eq!(rt; sink.bytes(), b"scopes ".as_slice());
     Ok(())
@@ -209,6 +207,7 @@ fn a_write_fault_leaves_a_prefix(rt: HostRuntime) -> Result<(), Fail> {
 #[test]
 fn one_byte_too_many_is_refused(rt: HostRuntime) -> Result<(), Fail> {
     let alloc = rt.alloc();
+    let guide = Guide::new(Box::new(alloc, |_seed: u64, _turn: u64, _n: u32| 0)?);
     let words = words_of_texts(alloc, &["one"])?;
     let most: usize = 1_048_576;
     for (length, number, output) in [
@@ -226,7 +225,7 @@ fn one_byte_too_many_is_refused(rt: HostRuntime) -> Result<(), Fail> {
         let text = vec![in alloc; b' '; length]?;
         let mut source = MemorySource::new(List::from_slice(alloc, &text)?, 5000, List::new(alloc));
         let mut sink = MemorySink::new(alloc, 64, 64, List::new(alloc))?;
-        let status = run(alloc, &words, &mut source, &mut sink);
+        let status = run(alloc, &words, &mut source, &mut sink, &guide).status;
         assert_eq!(rt; sink.bytes(), output, "at {length}");
         assert_eq!(rt; status.number(), number);
     }
@@ -262,11 +261,12 @@ impl Write for Broken {
 #[test]
 fn readers_and_writers_of_std_serve(rt: HostRuntime) -> Result<(), Fail> {
     let alloc = rt.alloc();
+    let guide = Guide::new(Box::new(alloc, |_seed: u64, _turn: u64, _n: u32| 0)?);
     let words = words_of_texts(alloc, &["one"])?;
     let mut written = Vec::new(alloc);
     let mut source = StdSource::new(b"a\n".as_slice());
     let mut sink = StdSink::new(&mut written);
-    let status = run(alloc, &words, &mut source, &mut sink);
+    let status = run(alloc, &words, &mut source, &mut sink, &guide).status;
     assert_eq!(rt; status, Status::Done);
     assert_eq!(rt;
         written.as_slice(),
@@ -278,6 +278,7 @@ fn readers_and_writers_of_std_serve(rt: HostRuntime) -> Result<(), Fail> {
 #[test]
 fn faults_of_std_are_told(rt: HostRuntime) -> Result<(), Fail> {
     let alloc = rt.alloc();
+    let guide = Guide::new(Box::new(alloc, |_seed: u64, _turn: u64, _n: u32| 0)?);
     let words = words_of_texts(alloc, &["one"])?;
     let mut sink = StdSink::new(Broken {
         takes_nothing: true,
@@ -286,12 +287,12 @@ fn faults_of_std_are_told(rt: HostRuntime) -> Result<(), Fail> {
         takes_nothing: false,
     });
     assert_eq!(rt;
-        run(alloc, &words, &mut broken, &mut sink),
+        run(alloc, &words, &mut broken, &mut sink, &guide).status,
         Status::ReadFault
     );
     let mut source = StdSource::new(b"a\n".as_slice());
     assert_eq!(rt;
-        run(alloc, &words, &mut source, &mut sink),
+        run(alloc, &words, &mut source, &mut sink, &guide).status,
         Status::WriteFault
     );
     Ok(())

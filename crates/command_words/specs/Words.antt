@@ -1,5 +1,5 @@
 -- What the words of the command line ask for. They are read one after the other.
-use Rattle.std.specs.Prelude.{ℕ, ◌+◌, ◌-◌, ◌*◌, ◌==◌, ◌&&◌, ◌||◌, not, Bool, true, false, List, [], ◌∷◌, ◌++◌, length, take, drop, reverse, slice_index, bytes_eq, nat_lt, nat_le, codes, Option, Some, None, is_none, is_some, ℤ, pos, neg_ℤ, negsuc, if◌then◌else◌, ◌≡◌}
+use Rattle.std.specs.Prelude.{ℕ, ◌+◌, ◌-◌, ◌*◌, ◌==◌, ◌&&◌, ◌||◌, not, Bool, true, false, List, [], ◌∷◌, ◌++◌, length, take, drop, reverse, slice_index, bytes_eq, nat_lt, nat_le, codes, Option, Some, None, ◌≤◌, IfSome, is_none, is_some, ℤ, pos, neg_ℤ, negsuc, if◌then◌else◌, ◌≡◌}
 use Rattle.std.specs.Option.{option_map, option_map_or, option_and_then}
 use Rattle.std.specs.List.{prefix_len, list_all}
 use Rattle.std.specs.Char.{is_ascii_digit}
@@ -29,6 +29,17 @@ begins_with_dash text = nat_lt 0 (length text) && (slice_index text 0 == 45)
 unfoldable pub integer : List ℕ → Option ℤ
 integer text = if begins_with_dash text then option_map (λ n. neg_ℤ (pos n)) (number (drop 1 text)) else option_map (λ n. pos n) (number text)
 
+-- a budget: a number from 1 to a thousand million
+unfoldable pub budget_of : List ℕ → Option ℕ
+budget_of text = option_and_then (λ n. if nat_le 1 n && nat_le n 1000000000 then Some n else None) (number text)
+
+-- within these bounds, and what is asked for so far has such a budget or none
+abbrev pub IsBudget : ℕ → Type 0
+IsBudget n = (1 ≤ n) × (n ≤ 1000000000)
+
+abbrev pub HasBudget : Asked → Type 0
+HasBudget asked = IfSome asked.budget IsBudget
+
 -- ---- settings
 
 -- how many digits a text ends with
@@ -55,6 +66,8 @@ setting_named name =
     else if bytes_eq name (codes "--default-scope") then Some setting.DefaultScope
     else if bytes_eq name (codes "--int-low") then Some setting.IntLow
     else if bytes_eq name (codes "--int-high") then Some setting.IntHigh
+    else if bytes_eq name (codes "--budget") then Some setting.Budget
+    else if bytes_eq name (codes "--seed") then Some setting.Seed
     else None
 
 -- ---- words
@@ -72,12 +85,20 @@ with_low asked low = if is_none asked.low then option_map (λ z. record asked { 
 abbrev pub with_high : Asked → Option ℤ → Option Asked
 with_high asked high = if is_none asked.high then option_map (λ z. record asked { high = Some z; awaited = None }) high else None
 
+abbrev pub with_budget : Asked → Option ℕ → Option Asked
+with_budget asked budget = if is_none asked.budget then option_map (λ n. record asked { budget = Some n; awaited = None }) budget else None
+
+abbrev pub with_seed : Asked → Option ℕ → Option Asked
+with_seed asked seed = if is_none asked.seed then option_map (λ n. record asked { seed = Some n; awaited = None }) seed else None
+
 -- with the value of a setting
 unfoldable pub with_value : Setting → List ℕ → Asked → Option Asked
 with_value setting.Scope value asked = with_scope asked (given_scope value)
 with_value setting.DefaultScope value asked = with_default asked (number value)
 with_value setting.IntLow value asked = with_low asked (integer value)
 with_value setting.IntHigh value asked = with_high asked (integer value)
+with_value setting.Budget value asked = with_budget asked (budget_of value)
+with_value setting.Seed value asked = with_seed asked (number value)
 
 -- with a setting, whose value stands behind the first `=` of its word, or is the next word
 abbrev pub name_length : List ℕ → ℕ
@@ -108,10 +129,10 @@ with_words [] asked = Some asked
 with_words (word ∷ words) asked = option_and_then (with_words words) (with_word word asked)
 
 abbrev pub nothing_asked : Asked
-nothing_asked = record { one = false; ended = false; awaited = None; scopes = []; default = None; low = None; high = None }
+nothing_asked = record { one = false; ended = false; awaited = None; scopes = []; default = None; low = None; high = None; budget = None; seed = None }
 
 -- What is asked for in all: `one` stands among the words, and no setting waits for its value. The default scope is 3, and integers
--- go from -2048 to 2047 where nothing else is given.
+-- go from -2048 to 2047, the budget is a thousand million and the seed 0 where nothing else is given.
 unfoldable pub request_of : Asked → Option Request
 request_of asked =
     if asked.one && is_none asked.awaited
@@ -122,6 +143,8 @@ request_of asked =
         low = option_map_or (λ z. z) asked.low (negsuc 2047);
         high = option_map_or (λ z. z) asked.high (pos 2047);
       };
+      budget = option_map_or (λ n. n) asked.budget 1000000000;
+      seed = option_map_or (λ n. n) asked.seed 0;
     })
     else None
 

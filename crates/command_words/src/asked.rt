@@ -1,9 +1,9 @@
 //! What the words have asked for so far.
 
-ghost use Rattle.std.specs.Prelude.{◌≡◌, ◌≤◌, length, IfOk};
+ghost use Rattle.std.specs.Prelude.{◌≡◌, ◌≤◌, length, IfOk, IfSome};
 ghost use Rattle.command_words.specs.Words as spec;
 
-use crate::numbers::{begins_with_dash, integer, number};
+use crate::numbers::{begins_with_dash, budget, integer, number};
 use crate::settings::{Setting, given_scope, setting_named};
 use clf_base::{List, NoMemory};
 use clf_tree::GivenScope;
@@ -22,6 +22,10 @@ pub struct Asked {
     pub default: Option<u64>,
     pub low: Option<i64>,
     pub high: Option<i64>,
+    /// The most clauses that the search may learn, 1 to a thousand million.
+    pub budget: Option<u64>,
+    /// What the guide is given.
+    pub seed: Option<u64>,
 }
 
 impl Asked {
@@ -37,12 +41,16 @@ impl Asked {
             default: None,
             low: None,
             high: None,
+            budget: None,
+            seed: None,
         }
     }
 }
 
 fn with_scope(asked: Asked, scope: Option<GivenScope>) -> Result<Option<Asked>, NoMemory>
-    ensures { IfOk result (λ more. more ≡ spec.with_scope asked scope) }
+    requires { spec.HasBudget asked }
+    ensures is { IfOk result (λ more. more ≡ spec.with_scope asked scope) }
+    ensures budget { IfOk result (λ more. IfSome more spec.HasBudget) }
 {
     let Some(scope) = scope else {
         return Ok(None);
@@ -57,7 +65,9 @@ fn with_scope(asked: Asked, scope: Option<GivenScope>) -> Result<Option<Asked>, 
 }
 
 fn with_default(asked: Asked, most: Option<u64>) -> Option<Asked>
-    ensures { result ≡ spec.with_default asked most }
+    requires { spec.HasBudget asked }
+    ensures is { result ≡ spec.with_default asked most }
+    ensures budget { IfSome result spec.HasBudget }
 {
     if asked.default.is_some() {
         return None;
@@ -71,7 +81,9 @@ fn with_default(asked: Asked, most: Option<u64>) -> Option<Asked>
 }
 
 fn with_low(asked: Asked, low: Option<i64>) -> Option<Asked>
-    ensures { result ≡ spec.with_low asked low }
+    requires { spec.HasBudget asked }
+    ensures is { result ≡ spec.with_low asked low }
+    ensures budget { IfSome result spec.HasBudget }
 {
     if asked.low.is_some() {
         return None;
@@ -85,7 +97,9 @@ fn with_low(asked: Asked, low: Option<i64>) -> Option<Asked>
 }
 
 fn with_high(asked: Asked, high: Option<i64>) -> Option<Asked>
-    ensures { result ≡ spec.with_high asked high }
+    requires { spec.HasBudget asked }
+    ensures is { result ≡ spec.with_high asked high }
+    ensures budget { IfSome result spec.HasBudget }
 {
     if asked.high.is_some() {
         return None;
@@ -93,6 +107,38 @@ fn with_high(asked: Asked, high: Option<i64>) -> Option<Asked>
     let high = high?;
     Some(Asked {
         high: Some(high),
+        awaited: None,
+        ..asked
+    })
+}
+
+fn with_budget(asked: Asked, budget: Option<u64>) -> Option<Asked>
+    requires { IfSome budget spec.IsBudget }
+    ensures is { result ≡ spec.with_budget asked budget }
+    ensures budget { IfSome result spec.HasBudget }
+{
+    if asked.budget.is_some() {
+        return None;
+    }
+    let budget = budget?;
+    Some(Asked {
+        budget: Some(budget),
+        awaited: None,
+        ..asked
+    })
+}
+
+fn with_seed(asked: Asked, seed: Option<u64>) -> Option<Asked>
+    requires { spec.HasBudget asked }
+    ensures is { result ≡ spec.with_seed asked seed }
+    ensures budget { IfSome result spec.HasBudget }
+{
+    if asked.seed.is_some() {
+        return None;
+    }
+    let seed = seed?;
+    Some(Asked {
+        seed: Some(seed),
         awaited: None,
         ..asked
     })
@@ -106,7 +152,9 @@ fn with_value(
     value: &[u8],
     asked: Asked,
 ) -> Result<Option<Asked>, NoMemory>
-    ensures { IfOk result (λ more. more ≡ spec.with_value setting value.now asked) }
+    requires { spec.HasBudget asked }
+    ensures is { IfOk result (λ more. more ≡ spec.with_value setting value.now asked) }
+    ensures budget { IfOk result (λ more. IfSome more spec.HasBudget) }
 {
     match setting {
         Setting::Scope => {
@@ -116,6 +164,8 @@ fn with_value(
         Setting::DefaultScope => Ok(with_default(asked, number(value))),
         Setting::IntLow => Ok(with_low(asked, integer(value))),
         Setting::IntHigh => Ok(with_high(asked, integer(value))),
+        Setting::Budget => Ok(with_budget(asked, budget(value))),
+        Setting::Seed => Ok(with_seed(asked, number(value))),
     }
 }
 
@@ -135,7 +185,9 @@ fn with_setting(
     asked: Asked,
     setting: Setting,
 ) -> Result<Option<Asked>, NoMemory>
-    ensures { IfOk result (λ more. more ≡ spec.with_setting word.now asked setting) }
+    requires { spec.HasBudget asked }
+    ensures is { IfOk result (λ more. more ≡ spec.with_setting word.now asked setting) }
+    ensures budget { IfOk result (λ more. IfSome more spec.HasBudget) }
 {
     let name = name_length(word);
     if name < word.len() {
@@ -150,7 +202,9 @@ fn with_setting(
 /// With a word that isn't the value of the setting before it.
 #[tactic(auto, unfolding(crate::specs::Words::with_free_word))]
 fn with_free_word(alloc: Global, word: &[u8], asked: Asked) -> Result<Option<Asked>, NoMemory>
-    ensures { IfOk result (λ more. more ≡ spec.with_free_word word.now asked) }
+    requires { spec.HasBudget asked }
+    ensures is { IfOk result (λ more. more ≡ spec.with_free_word word.now asked) }
+    ensures budget { IfOk result (λ more. IfSome more spec.HasBudget) }
 {
     if word == b"one".as_slice() {
         if asked.one {
@@ -176,7 +230,9 @@ fn with_free_word(alloc: Global, word: &[u8], asked: Asked) -> Result<Option<Ask
 /// With one more word; None where it can't stand there.
 #[tactic(auto, unfolding(crate::specs::Words::with_word))]
 pub(crate) fn with_word(alloc: Global, word: &[u8], asked: Asked) -> Result<Option<Asked>, NoMemory>
-    ensures { IfOk result (λ more. more ≡ spec.with_word word.now asked) }
+    requires { spec.HasBudget asked }
+    ensures is { IfOk result (λ more. more ≡ spec.with_word word.now asked) }
+    ensures budget { IfOk result (λ more. IfSome more spec.HasBudget) }
 {
     match asked.awaited {
         Some(setting) => {

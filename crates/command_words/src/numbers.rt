@@ -43,6 +43,23 @@ pub(crate) fn number(text: &[u8]) -> Option<u64>
     Some(value(text))
 }
 
+/// The greatest budget.
+const MOST_BUDGET: u64 = 1_000_000_000;
+
+/// The budget that 1 to 18 digits write, from 1 to a thousand million.
+#[tactic(auto, unfolding(crate::specs::Words::budget_of))]
+pub(crate) fn budget(text: &[u8]) -> Option<u64>
+    ensures value { result ≡ spec.budget_of text.now }
+    ensures bounds { IfSome result spec.IsBudget }
+{
+    let value = number(text)?;
+    if value >= 1 && value <= MOST_BUDGET {
+        Some(value)
+    } else {
+        None
+    }
+}
+
 pub(crate) fn begins_with_dash(text: &[u8]) -> bool
     ensures { result ≡ spec.begins_with_dash text.now }
 {

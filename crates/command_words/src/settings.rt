@@ -21,6 +21,10 @@ pub enum Setting {
     IntLow,
     /// The greatest one.
     IntHigh,
+    /// The most clauses that the search may learn, 1 to a thousand million.
+    Budget,
+    /// What the guide is given.
+    Seed,
 }
 
 /// The setting of a name.
@@ -36,6 +40,10 @@ pub(crate) fn setting_named(name: &[u8]) -> Option<Setting>
         Some(Setting::IntLow)
     } else if name == b"--int-high".as_slice() {
         Some(Setting::IntHigh)
+    } else if name == b"--budget".as_slice() {
+        Some(Setting::Budget)
+    } else if name == b"--seed".as_slice() {
+        Some(Setting::Seed)
     } else {
         None
     }

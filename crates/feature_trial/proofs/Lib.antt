@@ -1,3 +1,0 @@
-pub mod Cover
-pub mod Features
-pub mod Shapes

@@ -1,2 +1,0 @@
-pub mod FirstShape
-pub mod Trial
