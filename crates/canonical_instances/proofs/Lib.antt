@@ -1,3 +1,4 @@
+pub mod Contained
 pub mod Law
 pub mod Orders
 pub mod Ranks
@@ -5,3 +6,4 @@ pub mod Renamed
 pub mod Renumbered
 pub mod Rows
 pub mod Sorting
+pub mod Tested

@@ -46,7 +46,8 @@ numbers_exact es c j k e =
     equal_is j k (then_right up (nat_cmp j k) rest)
 
 -- one step more tells no more where the ways up end
-pub compare_more : (n : ℕ) (es : List Entry) (a b : Option Node) → ends_within n es a ≡ true → ends_within n es b ≡ true → compare_up (suc n) es a b ≡ compare_up n es a b
+pub compare_more : (n : ℕ) (es : List Entry) (a b : Option Node) → ends_within n es a ≡ true → ends_within n es b ≡ true
+    → compare_up (suc n) es a b ≡ compare_up n es a b
 compare_more zero es None None h k = refl
 compare_more zero es None (Some m) h k = absurd (true≢false (sym k))
 compare_more zero es (Some m) b h k = absurd (true≢false (sym h))
@@ -54,7 +55,8 @@ compare_more (suc n) es None None h k = refl
 compare_more (suc n) es None (Some m) h k = refl
 compare_more (suc n) es (Some m) None h k = refl
 compare_more (suc n) es (Some m) (Some l) h k =
-    ap (λ r. ordering_then (nat_cmp m.clafer l.clafer) (ordering_then r (nat_cmp m.number l.number))) (compare_more n es (parent_in es m) (parent_in es l) h k)
+    ap (λ r. ordering_then (nat_cmp m.clafer l.clafer) (ordering_then r (nat_cmp m.number l.number)))
+    (compare_more n es (parent_in es m) (parent_in es l) h k)
 
 -- what comes first by the first of two orders isn't later by it
 pub then_first : (a b : Ordering) → ordering_then a b ≡ Less → is_gt a ≡ false

@@ -31,13 +31,31 @@ module _ {X : Type 0} (p q : X → Bool) (more : (x : X) → p x ≡ true → q 
   count_few : (xs : List X) → count_by p xs ≤ count_by q xs
   count_few [] = omega arith
   count_few (x ∷ xs) =
-      omega (arith, sum_by-cons (λ (z : X). cond (p z) 1 0) x xs, sum_by-cons (λ (z : X). cond (q z) 1 0) x xs, le_weight (p x) (q x) (more x), count_few xs)
+      omega (
+        arith,
+        sum_by-cons (λ (z : X). cond (p z) 1 0) x xs,
+        sum_by-cons (λ (z : X). cond (q z) 1 0) x xs,
+        le_weight (p x) (q x) (more x),
+        count_few xs,
+      )
 
   count_fewer : (xs : List X) (x : X) → In x xs → p x ≡ false → q x ≡ true → count_by p xs < count_by q xs
   count_fewer _ x (first {xs = xs}) f t =
-      omega (arith, sum_by-cons (λ (z : X). cond (p z) 1 0) x xs, sum_by-cons (λ (z : X). cond (q z) 1 0) x xs, lt_weight (p x) (q x) f t, count_few xs)
+      omega (
+        arith,
+        sum_by-cons (λ (z : X). cond (p z) 1 0) x xs,
+        sum_by-cons (λ (z : X). cond (q z) 1 0) x xs,
+        lt_weight (p x) (q x) f t,
+        count_few xs,
+      )
   count_fewer _ x (later {y = y} {xs = xs} i) f t =
-      omega (arith, sum_by-cons (λ (z : X). cond (p z) 1 0) y xs, sum_by-cons (λ (z : X). cond (q z) 1 0) y xs, le_weight (p y) (q y) (more y), count_fewer xs x i f t)
+      omega (
+        arith,
+        sum_by-cons (λ (z : X). cond (p z) 1 0) y xs,
+        sum_by-cons (λ (z : X). cond (q z) 1 0) y xs,
+        le_weight (p y) (q y) (more y),
+        count_fewer xs x i f t,
+      )
 
 -- ---- as many different numbers as a list has are a permutation of it
 
@@ -85,7 +103,8 @@ permuted f zero a (y ∷ ys) h apart few = let no : ⊥ = omega (arith, few) in 
 permuted f (suc k) a ys h apart few =
     let s = split (f a) ys (h a (omega arith) (omega arith)) in
     let rest = permuted f k (a + 1) (s.front ++ s.back)
-    (λ i low high. in_rest (f a) (f i) s.front s.back (subst (λ zs. has zs (f i) ≡ true) s.is (h i (omega (arith, low)) (omega (arith, high)))) (apart a i (omega arith) (omega (arith, low)) (omega (arith, high))))
+    (λ i low high. in_rest (f a) (f i) s.front s.back (subst (λ zs. has zs (f i) ≡ true) s.is
+    (h i (omega (arith, low)) (omega (arith, high)))) (apart a i (omega arith) (omega (arith, low)) (omega (arith, high))))
     (λ i j low less high. apart i j (omega (arith, low)) less (omega (arith, high)))
     (few_left (f a) k ys s.front s.back s.is few) in
     let one = IsPermutation-cons (f a) (map f (range_with_len (a + 1) k)) (s.front ++ s.back) rest in
@@ -132,7 +151,8 @@ module _ (order : ℕ → ℕ → Ordering) (o : IsTotalOrder order) (exact : (j
 
   pub rank_below : (k : ℕ) → k < n → rank order n k < n
   rank_below k h =
-      let fewer = count_fewer (λ i. is_lt (order i k)) (λ i. true) (λ i e. refl) (numbers_below n) k (in_below n k h) (ap is_lt (tied_itself o k)) refl in
+      let fewer = count_fewer (λ i. is_lt (order i k)) (λ i. true) (λ i e. refl) (numbers_below n) k (in_below n k h)
+      (ap is_lt (tied_itself o k)) refl in
       omega (arith, fewer, count_by-le-length (λ (i : ℕ). true) (numbers_below n), length-range_with_len 0 n)
 
   turned : (j k : ℕ) → order j k ≡ Greater → order k j ≡ Less
@@ -158,7 +178,8 @@ module _ (order : ℕ → ℕ → Ordering) (o : IsTotalOrder order) (exact : (j
   pub ranks_permute : IsPermutation (map (rank order n) (numbers_below n)) (numbers_below n)
   ranks_permute =
       permuted (rank order n) n 0 (numbers_below n) (λ i low high. has_below n (rank order n i) (rank_below i (omega (arith, high))))
-      (λ i j low less high. not_same (rank order n j) (rank order n i) (λ e. let same = rank_same j i (omega (arith, high)) (omega (arith, less, high)) e in omega (arith, same, less)))
+      (λ i j low less high. not_same (rank order n j) (rank order n i)
+      (λ e. let same = rank_same j i (omega (arith, high)) (omega (arith, less, high)) e in omega (arith, same, less)))
       (omega (arith, length-range_with_len 0 n))
 
   -- each number below n is a rank

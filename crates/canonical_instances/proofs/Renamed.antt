@@ -55,7 +55,8 @@ before_apart m n h = grind (arith, common_steps)
 entry_found : (es : List Entry) (y : Entry) → is_ordered es ≡ true → In y es → entry_of es y.node ≡ Some y
 entry_found _ y ordered (first {xs = es}) = ap (λ b. cond b (Some y) (find (λ e. same_node y.node e.node) es)) (same_refl y.node)
 entry_found _ y ordered (later {y = x} {xs = es} i) =
-    let before : is_before x.node y.node ≡ true = all_in (λ e. is_before x.node e.node) es y i (and_left (list_all (λ e. is_before x.node e.node) es) (is_ordered es) ordered) in
+    let before : is_before x.node y.node ≡ true = all_in (λ e. is_before x.node e.node) es y i
+    (and_left (list_all (λ e. is_before x.node e.node) es) (is_ordered es) ordered) in
     ap (λ b. cond b (Some x) (find (λ e. same_node y.node e.node) es)) (before_apart x.node y.node before)
     ∙ entry_found es y (and_right (list_all (λ e. is_before x.node e.node) es) (is_ordered es) ordered) i
 
@@ -64,14 +65,17 @@ has_filtered p ns n h =
     let f = found (same_node n) (filter p ns) h in
     any_in (same_node n) ns f.item (kept p ns f.item f.in_list).in_list f.pass
 
-owned_there : (p : Node → Bool) (ns : List Node) (n : Node) (o : Option ℕ) → option_map_or (λ (q : ℕ). has_some (filter p ns) (Some n)) o (is_none (Some n)) ≡ true → has_node ns n ≡ true
+owned_there : (p : Node → Bool) (ns : List Node) (n : Node) (o : Option ℕ)
+    → option_map_or (λ (q : ℕ). has_some (filter p ns) (Some n)) o (is_none (Some n)) ≡ true → has_node ns n ≡ true
 owned_there p ns n None h = absurd (true≢false (sym h))
 owned_there p ns n (Some q) h = has_filtered p ns n h
 
-parent_there : (clafers : List Clafer) (es : List Entry) (e : Entry) (n : Node) → has_its_parent clafers es e ≡ true → e.parent ≡ Some n → has_node (nodes_of es) n ≡ true
+parent_there : (clafers : List Clafer) (es : List Entry) (e : Entry) (n : Node) → has_its_parent clafers es e ≡ true → e.parent ≡ Some n
+    → has_node (nodes_of es) n ≡ true
 parent_there clafers es e n h is =
     owned_there (λ m. has (owners clafers e.node.clafer) m.clafer) (nodes_of es) n (parent_of clafers e.node.clafer)
-    (subst (λ o. option_map_or (λ (q : ℕ). has_some (filter (λ m. has (owners clafers e.node.clafer) m.clafer) (nodes_of es)) o) (parent_of clafers e.node.clafer) (is_none o) ≡ true) is h)
+    (subst (λ o. option_map_or (λ (q : ℕ). has_some (filter (λ m. has (owners clafers e.node.clafer) m.clafer) (nodes_of es)) o)
+    (parent_of clafers e.node.clafer) (is_none o) ≡ true) is h)
 
 before_cases : (m n : Node) → is_before m n ≡ true → (m.clafer < n.clafer) ⊎ ((m.clafer ≡ n.clafer) × (m.number < n.number))
 before_cases m n h = by (nat_lt m.clafer n.clafer) refl
@@ -79,8 +83,12 @@ before_cases m n h = by (nat_lt m.clafer n.clafer) refl
     by : (b : Bool) → nat_lt m.clafer n.clafer ≡ b → (m.clafer < n.clafer) ⊎ ((m.clafer ≡ n.clafer) × (m.number < n.number))
     by true e = inl (less_from m.clafer n.clafer e)
     by false e =
-        let rest : ((m.clafer == n.clafer) && nat_lt m.number n.number) ≡ true = subst (λ b. (b || ((m.clafer == n.clafer) && nat_lt m.number n.number)) ≡ true) e h in
-        inr (equal_from m.clafer n.clafer (and_left (m.clafer == n.clafer) (nat_lt m.number n.number) rest), less_from m.number n.number (and_right (m.clafer == n.clafer) (nat_lt m.number n.number) rest))
+        let rest : ((m.clafer == n.clafer) && nat_lt m.number n.number) ≡ true =
+        subst (λ b. (b || ((m.clafer == n.clafer) && nat_lt m.number n.number)) ≡ true) e h in
+        inr (
+          equal_from m.clafer n.clafer (and_left (m.clafer == n.clafer) (nat_lt m.number n.number) rest),
+          less_from m.number n.number (and_right (m.clafer == n.clafer) (nat_lt m.number n.number) rest),
+        )
 
 not_true : (b : Bool) → (b ≡ true → ⊥) → b ≡ false
 not_true true h = absurd (h refl)
@@ -93,7 +101,8 @@ all_range p (suc k) a h =
 
 -- ---- an instance within the scopes whose entries make trees
 
-module _ (clafers : List Clafer) (scopes : Scopes) (es : List Entry) (ordered : is_ordered es ≡ true) (within : is_within clafers scopes es ≡ true) (tree : is_tree clafers es ≡ true) where
+module _ (clafers : List Clafer) (scopes : Scopes) (es : List Entry) (ordered : is_ordered es ≡ true)
+    (within : is_within clafers scopes es ≡ true) (tree : is_tree clafers es ≡ true) where
   abbrev numbers : List (List ℕ)
   numbers = renumbering scopes es
 
@@ -105,7 +114,8 @@ module _ (clafers : List Clafer) (scopes : Scopes) (es : List Entry) (ordered : 
 
   has_parent : (e : Entry) → In e es → has_its_parent clafers es e ≡ true
   has_parent e i =
-      and_right (concrete e) (has_its_parent clafers es e) (and_left (concrete e && has_its_parent clafers es e) (ends_within (length es) es e.parent) (tree_at e i))
+      and_right (concrete e) (has_its_parent clafers es e) (and_left (concrete e && has_its_parent clafers es e)
+      (ends_within (length es) es e.parent) (tree_at e i))
 
   ends : (e : Entry) → In e es → ends_within (length es) es e.parent ≡ true
   ends e i = and_right (concrete e && has_its_parent clafers es e) (ends_within (length es) es e.parent) (tree_at e i)
@@ -120,13 +130,16 @@ module _ (clafers : List Clafer) (scopes : Scopes) (es : List Entry) (ordered : 
   parent_is e i = ap (option_and_then (λ (x : Entry). x.parent)) (entry_found es e ordered i)
 
   -- the numbers of two renamed nodes are ordered as the new numbers
-  new_less : (m n : Node) → has_node (nodes_of es) m ≡ true → has_node (nodes_of es) n ≡ true → (renamed_node numbers m).number < (renamed_node numbers n).number → new_number scopes es m < new_number scopes es n
+  new_less : (m n : Node) → has_node (nodes_of es) m ≡ true → has_node (nodes_of es) n ≡ true
+      → (renamed_node numbers m).number < (renamed_node numbers n).number → new_number scopes es m < new_number scopes es n
   new_less m n h k less = omega (arith, less, number_is scopes es m (node_below m h), number_is scopes es n (node_below n k))
 
   -- nodes keep their order under their new numbers
-  no_later : (p q : Node) → has_node (nodes_of es) p ≡ true → has_node (nodes_of es) q ≡ true → is_gt (compare_up (suc (length es)) es (Some p) (Some q)) ≡ false
+  no_later : (p q : Node) → has_node (nodes_of es) p ≡ true → has_node (nodes_of es) q ≡ true
+      → is_gt (compare_up (suc (length es)) es (Some p) (Some q)) ≡ false
       → is_before (renamed_node numbers q) (renamed_node numbers p) ≡ false
-  no_later p q h k e = not_true (is_before (renamed_node numbers q) (renamed_node numbers p)) (λ before. by (before_cases (renamed_node numbers q) (renamed_node numbers p) before))
+  no_later p q h k e = not_true (is_before (renamed_node numbers q) (renamed_node numbers p))
+      (λ before. by (before_cases (renamed_node numbers q) (renamed_node numbers p) before))
     where
       by : (q.clafer < p.clafer) ⊎ ((q.clafer ≡ p.clafer) × ((renamed_node numbers q).number < (renamed_node numbers p).number)) → ⊥
       by (inl less) =
@@ -137,7 +150,8 @@ module _ (clafers : List Clafer) (scopes : Scopes) (es : List Entry) (ordered : 
           let down = (up_total (suc (length es)) es).antisymm (Some p) (Some q) ∙ ap ordering_reverse up in
           true≢false (sym (ap is_gt down) ∙ e)
 
-  parents_keep : (d e : Entry) (i : In d es) (j : In e es) → d.node.clafer ≡ e.node.clafer → new_number scopes es d.node < new_number scopes es e.node → (a b : Option Node) → d.parent ≡ a → e.parent ≡ b
+  parents_keep : (d e : Entry) (i : In d es) (j : In e es) → d.node.clafer ≡ e.node.clafer
+      → new_number scopes es d.node < new_number scopes es e.node → (a b : Option Node) → d.parent ≡ a → e.parent ≡ b
       → is_no_later (option_map (renamed_node numbers) a) (option_map (renamed_node numbers) b) ≡ true
   parents_keep d e i j same less None None f g = refl
   parents_keep d e i j same less None (Some q) f g = refl
@@ -148,24 +162,32 @@ module _ (clafers : List Clafer) (scopes : Scopes) (es : List Entry) (ordered : 
       let two = then_second (nat_cmp d.node.clafer e.node.clafer) (ordering_then up (nat_cmp d.node.number e.node.number))
       (ap (nat_cmp d.node.clafer) (sym same) ∙ tied_itself nat_cmp_total d.node.clafer) one in
       let three = then_first up (nat_cmp d.node.number e.node.number) two in
-      let more = compare_more (length es) es (Some p) (Some q) (subst (λ o. ends_within (length es) es o ≡ true) f (ends d i)) (subst (λ o. ends_within (length es) es o ≡ true) g (ends e j)) in
+      let more = compare_more (length es) es (Some p) (Some q) (subst (λ o. ends_within (length es) es o ≡ true) f (ends d i))
+      (subst (λ o. ends_within (length es) es o ≡ true) g (ends e j)) in
       let four : is_gt (compare_up (suc (length es)) es (Some p) (Some q)) ≡ false =
-      ap is_gt (more ∙ sym (ap (λ o. compare_up (length es) es o (parent_in es e.node)) (parent_is d i ∙ f) ∙ ap (λ o. compare_up (length es) es (Some p) o) (parent_is e j ∙ g))) ∙ three in
+      ap is_gt (more ∙ sym (ap (λ o. compare_up (length es) es o (parent_in es e.node)) (parent_is d i ∙ f)
+      ∙ ap (λ o. compare_up (length es) es (Some p) o) (parent_is e j ∙ g))) ∙ three in
       ap not (no_later p q (parent_there clafers es d p (has_parent d i) f) (parent_there clafers es e q (has_parent e j) g) four)
 
   -- of two renamed entries the earlier one has no later parent
-  pub keeps : (d e : Entry) → In d es → In e es → is_before (renamed numbers d).node (renamed numbers e).node ≡ true → keep_order clafers (renamed numbers d) (renamed numbers e) ≡ true
+  pub keeps : (d e : Entry) → In d es → In e es → is_before (renamed numbers d).node (renamed numbers e).node ≡ true
+      → keep_order clafers (renamed numbers d) (renamed numbers e) ≡ true
   keeps d e i j before = by (before_cases (renamed numbers d).node (renamed numbers e).node before)
     where
-      by : (d.node.clafer < e.node.clafer) ⊎ ((d.node.clafer ≡ e.node.clafer) × ((renamed numbers d).node.number < (renamed numbers e).node.number)) → keep_order clafers (renamed numbers d) (renamed numbers e) ≡ true
+      by : (d.node.clafer < e.node.clafer) ⊎ ((d.node.clafer ≡ e.node.clafer) ×
+          ((renamed numbers d).node.number < (renamed numbers e).node.number))
+          → keep_order clafers (renamed numbers d) (renamed numbers e) ≡ true
       by (inl less) =
-          ap (λ b. not (b && follows_parents clafers d.node.clafer) || is_no_later (renamed numbers d).parent (renamed numbers e).parent) (less_apart d.node.clafer e.node.clafer less)
+          ap (λ b. not (b && follows_parents clafers d.node.clafer) || is_no_later (renamed numbers d).parent (renamed numbers e).parent)
+          (less_apart d.node.clafer e.node.clafer less)
       by (inr less) =
-          or_right (not ((d.node.clafer == e.node.clafer) && follows_parents clafers d.node.clafer)) (is_no_later (renamed numbers d).parent (renamed numbers e).parent)
+          or_right (not ((d.node.clafer == e.node.clafer) && follows_parents clafers d.node.clafer))
+          (is_no_later (renamed numbers d).parent (renamed numbers e).parent)
           (parents_keep d e i j less.0 (new_less d.node e.node (in_nodes es d i) (in_nodes es e j) less.1) d.parent e.parent refl refl)
 
   -- each number below that of a renamed entry is the number of a renamed entry
-  pub fills : (e : Entry) → In e es → (i : ℕ) → i < (renamed numbers e).node.number → has_node (nodes_of (map (renamed numbers) es)) (record { clafer = e.node.clafer; number = i }) ≡ true
+  pub fills : (e : Entry) → In e es → (i : ℕ) → i < (renamed numbers e).node.number
+      → has_node (nodes_of (map (renamed numbers) es)) (record { clafer = e.node.clafer; number = i }) ≡ true
   fills e i k less =
       let c = e.node.clafer in
       let below = entry_below e i in
@@ -173,6 +195,7 @@ module _ (clafers : List Clafer) (scopes : Scopes) (es : List Entry) (ordered : 
       let before = comes_first scopes es c r.from e.node.number below (omega (arith, less, number_is scopes es e.node below, r.is)) in
       let x = entered es (record { clafer = c; number = r.from }) (there_first es c r.from e.node.number (in_nodes es e i) before) in
       let new = number_is scopes es (record { clafer = c; number = r.from }) (omega (arith, r.high)) ∙ r.is in
-      let is : renamed_node numbers x.entry.node ≡ record { clafer = c; number = k } = ap (renamed_node numbers) x.is ∙ ap (λ n. record { clafer = c; number = n }) new in
+      let is : renamed_node numbers x.entry.node ≡ record { clafer = c; number = k } = ap (renamed_node numbers) x.is
+      ∙ ap (λ n. record { clafer = c; number = n }) new in
       subst (λ (q : Node). has_node (nodes_of (map (renamed numbers) es)) q ≡ true) is
       (in_nodes (map (renamed numbers) es) (renamed numbers x.entry) (in_map (renamed numbers) es x.entry x.there))

@@ -39,10 +39,12 @@ module _ (scopes : Scopes) (es : List Entry) where
   scope_listed c k None e h = let no : ⊥ = omega (arith, h) in absurd no
   scope_listed c k (Some n) e h = slice_get_within scopes.of c n e
 
-  pub number_is : (m : Node) → m.number < scope_of scopes m.clafer → get_or (get_or (renumbering scopes es) m.clafer []) m.number 0 ≡ new_number m
+  pub number_is : (m : Node) → m.number < scope_of scopes m.clafer
+      → get_or (get_or (renumbering scopes es) m.clafer []) m.number 0 ≡ new_number m
   number_is m h =
       ap (λ xs. get_or xs m.number 0) (listed m.clafer (scope_listed m.clafer m.number (slice_get scopes.of m.clafer) refl h))
-      ∙ get_or-map-range_with_len (rank (compare_numbers es m.clafer) (scope_of scopes m.clafer)) 0 (scope_of scopes m.clafer) m.number m.number 0 h (omega arith)
+      ∙ get_or-map-range_with_len (rank (compare_numbers es m.clafer) (scope_of scopes m.clafer)) 0
+      (scope_of scopes m.clafer) m.number m.number 0 h (omega arith)
 
   -- each number below a new one is the new number of one that comes before it
   pub earlier : (c k i : ℕ) → k < scope_of scopes c → i < rank (compare_numbers es c) (scope_of scopes c) k
@@ -51,7 +53,9 @@ module _ (scopes : Scopes) (es : List Entry) where
       let below = rank_below (compare_numbers es c) (numbers_total es c) (numbers_exact es c) (scope_of scopes c) k h in
       rank_onto (compare_numbers es c) (numbers_total es c) (numbers_exact es c) (scope_of scopes c) i (omega (arith, below, less))
 
-  pub comes_first : (c j k : ℕ) → k < scope_of scopes c → rank (compare_numbers es c) (scope_of scopes c) j < rank (compare_numbers es c) (scope_of scopes c) k → compare_numbers es c j k ≡ Less
+  pub comes_first : (c j k : ℕ) → k < scope_of scopes c
+      → rank (compare_numbers es c) (scope_of scopes c) j < rank (compare_numbers es c) (scope_of scopes c) k
+      → compare_numbers es c j k ≡ Less
   comes_first c j k h less = rank_reflects (compare_numbers es c) (numbers_total es c) (numbers_exact es c) (scope_of scopes c) j k h less
 
 -- ---- nodes that are there
@@ -66,17 +70,20 @@ present false h = absurd (true≢false (sym h))
 pub is_absent : (es : List Entry) (m : Node) → has_node (nodes_of es) m ≡ true → absence es m ≡ 0
 is_absent es m h = present (has_node (nodes_of es) m) h
 
-both_there : (es : List Entry) (m n : Node) → has_node (nodes_of es) m ≡ true → has_node (nodes_of es) n ≡ true → nat_cmp (absence es m) (absence es n) ≡ Equal
+both_there : (es : List Entry) (m n : Node) → has_node (nodes_of es) m ≡ true → has_node (nodes_of es) n ≡ true
+    → nat_cmp (absence es m) (absence es n) ≡ Equal
 both_there es m n h k =
     ap (λ x. nat_cmp x (absence es n)) (is_absent es m h) ∙ ap (nat_cmp 0) (is_absent es n k)
 
 -- of two nodes of one clafer that are there, the one with the smaller new number comes first
-pub node_first : (scopes : Scopes) (es : List Entry) (m n : Node) → m.clafer ≡ n.clafer → n.number < scope_of scopes n.clafer → has_node (nodes_of es) m ≡ true → has_node (nodes_of es) n ≡ true
+pub node_first : (scopes : Scopes) (es : List Entry) (m n : Node) → m.clafer ≡ n.clafer → n.number < scope_of scopes n.clafer
+    → has_node (nodes_of es) m ≡ true → has_node (nodes_of es) n ≡ true
     → new_number scopes es m < new_number scopes es n → compare_up (suc (length es)) es (Some m) (Some n) ≡ Less
 node_first scopes es m n same below there there' less =
     let moved : Node = record { clafer = n.clafer; number = m.number } in
     let is : m ≡ moved = ap (λ c. record { clafer = c; number = m.number }) same in
-    let first = comes_first scopes es n.clafer m.number n.number below (subst (λ (q : Node). new_number scopes es q < new_number scopes es n) is less) in
+    let first = comes_first scopes es n.clafer m.number n.number below
+    (subst (λ (q : Node). new_number scopes es q < new_number scopes es n) is less) in
     let tied = both_there es moved n (subst (λ (q : Node). has_node (nodes_of es) q ≡ true) is there) there' in
     subst (λ (q : Node). compare_up (suc (length es)) es (Some q) (Some n) ≡ Less) (sym is)
     (then_second (nat_cmp (absence es moved) (absence es n)) (compare_up (suc (length es)) es (Some moved) (Some n)) tied first)
@@ -86,7 +93,8 @@ was_there true h = refl
 was_there false h = absurd (true≢false h)
 
 -- what comes before a node that is there is there
-pub there_first : (es : List Entry) (c j k : ℕ) → has_node (nodes_of es) (record { clafer = c; number = k }) ≡ true → compare_numbers es c j k ≡ Less → has_node (nodes_of es) (record { clafer = c; number = j }) ≡ true
+pub there_first : (es : List Entry) (c j k : ℕ) → has_node (nodes_of es) (record { clafer = c; number = k }) ≡ true
+    → compare_numbers es c j k ≡ Less → has_node (nodes_of es) (record { clafer = c; number = j }) ≡ true
 there_first es c j k there less =
     let m : Node = record { clafer = c; number = j } in
     let n : Node = record { clafer = c; number = k } in
@@ -115,10 +123,12 @@ module _ (clafers : List Clafer) (scopes : Scopes) where
   numbers_fit [] h = refl
   numbers_fit (n ∷ ns) h =
       both (is_below_scope scopes n) (list_all (is_below_scope scopes) ns)
-      (and_right (is_concrete clafers n.clafer) (is_below_scope scopes n) (left (placed n) (list_all placed ns) h)) (numbers_fit ns (and_right (placed n) (list_all placed ns) h))
+      (and_right (is_concrete clafers n.clafer) (is_below_scope scopes n) (left (placed n) (list_all placed ns) h))
+      (numbers_fit ns (and_right (placed n) (list_all placed ns) h))
 
   pub below_scopes : (es : List Entry) → is_within clafers scopes es ≡ true → are_below_scopes scopes es ≡ true
   below_scopes [] h = refl
   below_scopes (e ∷ es) h =
       both (list_all (is_below_scope scopes) (named_by e)) (are_below_scopes scopes es)
-      (numbers_fit (named_by e) (left (list_all placed (named_by e)) (is_within clafers scopes es) h)) (below_scopes es (and_right (list_all placed (named_by e)) (is_within clafers scopes es) h))
+      (numbers_fit (named_by e) (left (list_all placed (named_by e)) (is_within clafers scopes es) h))
+      (below_scopes es (and_right (list_all placed (named_by e)) (is_within clafers scopes es) h))

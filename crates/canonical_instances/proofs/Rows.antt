@@ -113,8 +113,10 @@ files_exchanged = refl
 abbrev within : List ℕ → Scopes
 within of = record { of = of; low = pos 0; high = pos 10 }
 
-pub costs_renumbered : renumbering (within (0 ∷ 2 ∷ 1 ∷ 1 ∷ [])) (cost 3 0 4 ∷ cost 2 1 3 ∷ top 2 0 ∷ top 3 0 ∷ []) ≡ [] ∷ (1 ∷ 0 ∷ []) ∷ (0 ∷ []) ∷ (0 ∷ []) ∷ []
+pub costs_renumbered : renumbering (within (0 ∷ 2 ∷ 1 ∷ 1 ∷ [])) (cost 3 0 4 ∷ cost 2 1 3 ∷ top 2 0 ∷ top 3 0 ∷ [])
+    ≡ [] ∷ (1 ∷ 0 ∷ []) ∷ (0 ∷ []) ∷ (0 ∷ []) ∷ []
 costs_renumbered = refl
 
-pub gap_closed : renumbering (within (3 ∷ 2 ∷ [])) (top 0 1 ∷ top 0 2 ∷ below (node 0 2) 1 0 ∷ below (node 0 1) 1 1 ∷ []) ≡ (2 ∷ 0 ∷ 1 ∷ []) ∷ (1 ∷ 0 ∷ []) ∷ []
+pub gap_closed : renumbering (within (3 ∷ 2 ∷ [])) (top 0 1 ∷ top 0 2 ∷ below (node 0 2) 1 0 ∷ below (node 0 1) 1 1 ∷ [])
+    ≡ (2 ∷ 0 ∷ 1 ∷ []) ∷ (1 ∷ 0 ∷ []) ∷ []
 gap_closed = refl

@@ -7,7 +7,7 @@ use Rattle.std.proofs.lemmas.List.Sorted.{IsPermutation-refl, IsPermutation-cons
 use Rattle.clf_tree.specs.declared.instance.Node.{Node}
 use Rattle.clf_tree.specs.declared.instance.Entry.{Entry}
 use Rattle.clf_tree.specs.Nodes.{same_node, is_before, is_ordered, nodes_of}
-use Rattle.clf_tree.proofs.Items.{In, first, later, and_left, and_right}
+use Rattle.clf_tree.proofs.Items.{and_left, and_right}
 
 abbrev put : Entry → List Entry → List Entry
 put x [] = x ∷ []
@@ -25,13 +25,15 @@ put_permutes x (y ∷ ys) = by (is_before y.node x.node) (put_permutes x ys)
   where
     by : (b : Bool) → IsPermutation (x ∷ ys) (put x ys) → IsPermutation (x ∷ y ∷ ys) (cond b (y ∷ put x ys) (x ∷ y ∷ ys))
     by true rest =
-        IsPermutation-trans (x ∷ y ∷ ys) (y ∷ x ∷ ys) (y ∷ put x ys) (IsPermutation-middle (x ∷ []) y ys) (IsPermutation-cons y (x ∷ ys) (put x ys) rest)
+        IsPermutation-trans (x ∷ y ∷ ys) (y ∷ x ∷ ys) (y ∷ put x ys) (IsPermutation-middle (x ∷ []) y ys)
+        (IsPermutation-cons y (x ∷ ys) (put x ys) rest)
     by false rest = IsPermutation-refl (x ∷ y ∷ ys)
 
 pub arranged_permutes : (xs : List Entry) → IsPermutation xs (arranged xs)
 arranged_permutes [] = IsPermutation-refl []
 arranged_permutes (x ∷ xs) =
-    IsPermutation-trans (x ∷ xs) (x ∷ arranged xs) (put x (arranged xs)) (IsPermutation-cons x xs (arranged xs) (arranged_permutes xs)) (put_permutes x (arranged xs))
+    IsPermutation-trans (x ∷ xs) (x ∷ arranged xs) (put x (arranged xs)) (IsPermutation-cons x xs (arranged xs) (arranged_permutes xs))
+    (put_permutes x (arranged xs))
 
 three : (a b c : Bool) → (a && (b && c)) ≡ (b && (a && c))
 three true b c = refl
@@ -43,29 +45,14 @@ module _ (p : Entry → Bool) where
   all_put x [] = refl
   all_put x (y ∷ ys) = by (is_before y.node x.node) (all_put x ys)
     where
-      by : (b : Bool) → list_all p (put x ys) ≡ (p x && list_all p ys) → list_all p (cond b (y ∷ put x ys) (x ∷ y ∷ ys)) ≡ (p x && (p y && list_all p ys))
+      by : (b : Bool) → list_all p (put x ys) ≡ (p x && list_all p ys)
+          → list_all p (cond b (y ∷ put x ys) (x ∷ y ∷ ys)) ≡ (p x && (p y && list_all p ys))
       by true rest = ap (λ b. p y && b) rest ∙ three (p y) (p x) (list_all p ys)
       by false rest = refl
 
-  pub all_arranged : (xs : List Entry) → list_all p (arranged xs) ≡ list_all p xs
+  all_arranged : (xs : List Entry) → list_all p (arranged xs) ≡ list_all p xs
   all_arranged [] = refl
   all_arranged (x ∷ xs) = all_put x (arranged xs) ∙ ap (λ b. p x && b) (all_arranged xs)
-
-deeper : (x y z : Entry) (ys : List Entry) → In z (x ∷ ys) → In z (x ∷ y ∷ ys)
-deeper _ y z ys (first {x = _}) = first
-deeper x y z ys (later j) = later (later j)
-
-under : (x y z : Entry) (zs ys : List Entry) → (In z zs → In z (x ∷ ys)) → In z (y ∷ zs) → In z (x ∷ y ∷ ys)
-under x _ z zs ys rest (first {x = _}) = later first
-under x y z zs ys rest (later j) = deeper x y z ys (rest j)
-
-put_at : (x y z : Entry) (ys : List Entry) (b : Bool) → (In z (put x ys) → In z (x ∷ ys)) → In z (cond b (y ∷ put x ys) (x ∷ y ∷ ys)) → In z (x ∷ y ∷ ys)
-put_at x y z ys true rest j = under x y z (put x ys) ys rest j
-put_at x y z ys false rest j = j
-
-in_put : (x z : Entry) (ys : List Entry) → In z (put x ys) → In z (x ∷ ys)
-in_put x z [] i = i
-in_put x z (y ∷ ys) i = put_at x y z ys (is_before y.node x.node) (in_put x z ys) i
 
 -- ---- in order
 
@@ -80,7 +67,8 @@ both true true p q = refl
 both true false p q = q
 both false b p q = p
 
-all_before : (l m : Node) (es : List Entry) → is_before l m ≡ true → list_all (λ (e : Entry). is_before m e.node) es ≡ true → list_all (λ (e : Entry). is_before l e.node) es ≡ true
+all_before : (l m : Node) (es : List Entry) → is_before l m ≡ true → list_all (λ (e : Entry). is_before m e.node) es ≡ true
+    → list_all (λ (e : Entry). is_before l e.node) es ≡ true
 all_before l m [] p h = refl
 all_before l m (e ∷ es) p h =
     both (is_before l e.node) (list_all (λ (x : Entry). is_before l x.node) es)
@@ -96,7 +84,8 @@ not_same m e false s h = s
 
 ordered_put : (x : Entry) (ys : List Entry) → is_ordered ys ≡ true → list_all (differs x.node) ys ≡ true → is_ordered (put x ys) ≡ true
 ordered_put x [] ordered apart = refl
-ordered_put x (y ∷ ys) ordered apart = by (is_before y.node x.node) refl (ordered_put x ys rest (and_right (differs x.node y) (list_all (differs x.node) ys) apart))
+ordered_put x (y ∷ ys) ordered apart = by (is_before y.node x.node) refl
+    (ordered_put x ys rest (and_right (differs x.node y) (list_all (differs x.node) ys) apart))
   where
     rest : is_ordered ys ≡ true
     rest = and_right (list_all (λ (e : Entry). is_before y.node e.node) ys) (is_ordered ys) ordered
@@ -107,12 +96,15 @@ ordered_put x (y ∷ ys) ordered apart = by (is_before y.node x.node) refl (orde
     by : (b : Bool) → is_before y.node x.node ≡ b → is_ordered (put x ys) ≡ true → is_ordered (cond b (y ∷ put x ys) (x ∷ y ∷ ys)) ≡ true
     by true e more =
         both (list_all (λ (z : Entry). is_before y.node z.node) (put x ys)) (is_ordered (put x ys))
-        (all_put (λ (z : Entry). is_before y.node z.node) x ys ∙ both (is_before y.node x.node) (list_all (λ (z : Entry). is_before y.node z.node) ys) e above) more
+        (all_put (λ (z : Entry). is_before y.node z.node) x ys
+        ∙ both (is_before y.node x.node) (list_all (λ (z : Entry). is_before y.node z.node) ys) e above) more
     by false e more =
         let here : is_before x.node y.node ≡ true =
-        before_after x.node y.node e (not_same x.node y (same_node x.node y.node) refl (and_left (differs x.node y) (list_all (differs x.node) ys) apart)) in
+        before_after x.node y.node e (not_same x.node y (same_node x.node y.node) refl
+        (and_left (differs x.node y) (list_all (differs x.node) ys) apart)) in
         both (is_before x.node y.node && list_all (λ (z : Entry). is_before x.node z.node) ys) (is_ordered (y ∷ ys))
-        (both (is_before x.node y.node) (list_all (λ (z : Entry). is_before x.node z.node) ys) here (all_before x.node y.node ys here above)) ordered
+        (both (is_before x.node y.node) (list_all (λ (z : Entry). is_before x.node z.node) ys) here
+        (all_before x.node y.node ys here above)) ordered
 
 all_differ : (m : Node) (es : List Entry) → AllByRecursion (λ n. same_node m n ≡ false) (nodes_of es) → list_all (differs m) es ≡ true
 all_differ m [] h = refl
@@ -123,13 +115,3 @@ unfolding IsDistinct
 arranged_ordered [] apart = refl
 arranged_ordered (x ∷ xs) apart =
     ordered_put x (arranged xs) (arranged_ordered xs apart.1) (all_arranged (differs x.node) xs ∙ all_differ x.node xs apart.0)
-
--- ---- what holds of each two in their order
-
-one_more : (x z : Entry) (ys xs : List Entry) → (In z ys → In z xs) → In z (x ∷ ys) → In z (x ∷ xs)
-one_more _ z ys xs rest (first {x = _}) = first
-one_more x z ys xs rest (later j) = later (rest j)
-
-pub in_arranged : (xs : List Entry) (z : Entry) → In z (arranged xs) → In z xs
-in_arranged [] z i = i
-in_arranged (x ∷ xs) z i = one_more x z (arranged xs) xs (in_arranged xs z) (in_put x z (arranged xs) i)

@@ -1,6 +1,6 @@
 -- Instances whose numbers say no more than their parents do.
-use Rattle.std.specs.Prelude.{ℕ, ◌==◌, ◌&&◌, ◌||◌, Bool, true, not, List, Option, Some, is_some}
-use Rattle.std.specs.List.{list_all}
+use Rattle.std.specs.Prelude.{◌≡◌, ℕ, ◌<◌, ◌==◌, ◌&&◌, ◌||◌, Bool, true, not, List, Option, Some, is_some, nat_lt, IsTrue}
+use Rattle.std.specs.List.{list_all, Contains}
 use Rattle.clf_tree.specs.declared.model.Clafer.{Clafer}
 use Rattle.clf_tree.specs.declared.instance.Node.{Node}
 use Rattle.clf_tree.specs.declared.instance.Entry.{Entry}
@@ -29,6 +29,12 @@ keep_order clafers d e = not ((d.node.clafer == e.node.clafer) && follows_parent
 
 -- For each clafer the numbers of its entries are 0 to n - 1 for some n. Of two entries of one nested clafer that is in no
 -- containment cycle, the one with the smaller number has no later parent in the order of nodes.
--- Entries stand in the order of their nodes, so of two of one clafer the earlier one has the smaller number.
+pub record IsCanonical (clafers : List Clafer) (entries : List Entry) : Type 0 where
+  pub numbered : (c : ℕ) → (n : ℕ) × ((k : ℕ) → has_node (nodes_of entries) (record { clafer = c; number = k }) ≡ nat_lt k n)
+  pub in_order : (d e : Entry) → Contains entries d → Contains entries e
+      → d.node.clafer ≡ e.node.clafer → d.node.number < e.node.number
+      → IsTrue (follows_parents clafers d.node.clafer) → IsTrue (is_no_later d.parent e.parent)
+
+-- the test of it: entries stand in the order of their nodes, so of two of one clafer the earlier one has the smaller number
 abbrev pub is_canonical : List Clafer → List Entry → Bool
 is_canonical clafers entries = list_all (fills_numbers entries) entries && each_two (keep_order clafers) entries
