@@ -1,7 +1,13 @@
+mod Admitting
+mod Blocking
 mod Choosing
 mod Deciding
+mod Differing
+mod Growing
 mod Inputs
 mod Known
+mod Limits
+mod Numbering
 mod Posed
 mod Rows
 mod Ruling

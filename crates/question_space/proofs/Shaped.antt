@@ -8,6 +8,9 @@ use Rattle.std.proofs.lemmas.List.FromFn.{length-range_with_len}
 use Rattle.bool_circuit.specs.declared.gate.Gate.{Gate}
 use Rattle.bool_circuit.specs.declared.gate.Wire.{Wire}
 use Rattle.bool_circuit.specs.Circuit.{inputs, wire_value, wire_values}
+use Rattle.canonical_encoder.specs.Slots.{are_canonical}
+use Rattle.canonical_instances.specs.Canonical.{is_canonical}
+use Rattle.canonical_instances.specs.Exists.{SatisfyingHaveCanonical}
 use Rattle.clf_tree.specs.declared.instance.Entry.{Entry}
 use Rattle.clf_tree.specs.declared.model.Clafer.{Clafer}
 use Rattle.clf_tree.specs.declared.model.Model.{Model}
@@ -23,20 +26,23 @@ use Rattle.shown_instance.specs.Consistent.{abstract_are_empty}
 use Rattle.shown_instance.specs.Shaped.{is_shaped, ShowsShaped}
 use Rattle.shown_instance.specs.Shown.{shown}
 use Rattle.question_space.specs.Choices.{chosen}
-use Rattle.question_space.specs.Encoding.{IsOnWires, all_hold}
+use Rattle.question_space.specs.Encoding.{IsOnWires}
 use Rattle.question_space.proofs.Choosing.{chosen-map}
-use Rattle.question_space.proofs.Units.{HoldSomewhere, both, left, right}
+use Rattle.question_space.proofs.Units.{both, left, right}
 
 -- what is known of bits and of what they show
 pub record Laws : Type 0 where
   pub shaped : (clafers : List Clafer) (scopes : Scopes) (layout : Layout) (bits : List Bool) → Fits clafers scopes layout → IsTrue (abstract_are_empty clafers scopes) → IsTrue (each clafers (λ c. not (contains_itself clafers c))) → length bits ≡ size layout → IsTrue (is_shaped clafers scopes layout bits) ↔ ShowsShaped clafers scopes layout bits
   pub alone : (clafers : List Clafer) (scopes : Scopes) (layout : Layout) (bits : List Bool) (entries : List Entry) → Fits clafers scopes layout → Shows clafers scopes layout bits entries → entries ≡ shown layout bits
   pub spelled : (clafers : List Clafer) (scopes : Scopes) (layout : Layout) (entries : List Entry) → Fits clafers scopes layout → neg_ℤ (pos (2 ^ 63)) ≤ℤ scopes.low → scopes.high <ℤ pos (2 ^ 63) → IsTrue (is_within clafers scopes entries) → IsTrue (is_ordered entries) → IsTrue (is_tree clafers entries) → IsTrue (has_shape clafers scopes entries) → (bits : List Bool) × Shows clafers scopes layout bits entries
+  pub tested : (clafers : List Clafer) (scopes : Scopes) (layout : Layout) (bits : List Bool) (entries : List Entry) → Fits clafers scopes layout → Shows clafers scopes layout bits entries → IsTrue (is_tree clafers entries) → IsTrue (has_shape clafers scopes entries) → are_canonical clafers layout bits ≡ is_canonical clafers entries
+  pub canonical : SatisfyingHaveCanonical
 
--- the bits show the instance that they tell, and it satisfies laws
+-- the bits show the instance that they tell, and it satisfies laws and is canonical
 pub record ShowsLawful (model : Model) (scopes : Scopes) (layout : Layout) (laws : List Law) (bits : List Bool) : Type 0 where
   pub shows : Shows model.clafers scopes layout bits (shown layout bits)
   pub satisfied : satisfies_laws model.clafers laws scopes (shown layout bits) ≡ true
+  pub canonical : is_canonical model.clafers (shown layout bits) ≡ true
 
 -- the structure is true at the bits, and the laws hold in what they tell
 pub record TellsLawful (model : Model) (scopes : Scopes) (layout : Layout) (gates : List Gate) (structure : Wire) (laws : List Law) (bits : List Bool) : Type 0 where
@@ -44,12 +50,6 @@ pub record TellsLawful (model : Model) (scopes : Scopes) (layout : Layout) (gate
   pub shaped : is_shaped model.clafers scopes layout bits ≡ true
   pub structured : wire_value gates structure bits ≡ true
   pub lawful : list_all (holds model.clafers (shown layout bits)) laws ≡ true
-
--- some instance satisfies laws
-pub record SomeLawful (clafers : List Clafer) (scopes : Scopes) (laws : List Law) : Type 0 where
-  pub entries : List Entry
-  pub ordered : is_ordered entries ≡ true
-  pub satisfied : satisfies_laws clafers laws scopes entries ≡ true
 
 -- the four rules of an instance
 four : (a b c d : Bool) → a ≡ true → b ≡ true → c ≡ true → d ≡ true → (a && b && c && d) ≡ true
@@ -80,8 +80,17 @@ module _ (known : Laws) (model : Model) (scopes : Scopes) (layout : Layout) (gat
   -- bits at which the structure is true show the instance that they tell, with the laws that hold in it
   pub shown_lawful : IsOnWires model scopes layout gates structure rules → (laws : List Law) (bits : List Bool) → length bits ≡ size layout
       → wire_value gates structure bits ≡ true → list_all (holds model.clafers (shown layout bits)) laws ≡ true → ShowsLawful model scopes layout laws bits
-  shown_lawful on laws bits count true_there lawful = met ((known.shaped model.clafers scopes layout bits on.placed.fits on.placed.empty on.placed.acyclic count).0 (sym (on.structure_is bits) ∙ true_there))
+  shown_lawful on laws bits count true_there lawful = met ((known.shaped model.clafers scopes layout bits on.placed.fits on.placed.empty on.placed.acyclic count).0 (left shaped told here))
     where
+      shaped : Bool
+      shaped = is_shaped model.clafers scopes layout bits
+
+      told : Bool
+      told = are_canonical model.clafers layout bits
+
+      here : (shaped && told) ≡ true
+      here = sym (on.structure_is bits) ∙ true_there
+
       met : ShowsShaped model.clafers scopes layout bits → ShowsLawful model scopes layout laws bits
       met s =
           let same = known.alone model.clafers scopes layout bits s.entries on.placed.fits s.shows in
@@ -89,30 +98,32 @@ module _ (known : Laws) (model : Model) (scopes : Scopes) (layout : Layout) (gat
             shows = subst (Shows model.clafers scopes layout bits) same s.shows;
             satisfied = four (is_within model.clafers scopes (shown layout bits)) (is_tree model.clafers (shown layout bits)) (has_shape model.clafers scopes (shown layout bits)) (list_all (holds model.clafers (shown layout bits)) laws)
                 (ap (is_within model.clafers scopes) (sym same) ∙ s.shows.within) (ap (is_tree model.clafers) (sym same) ∙ s.tree) (ap (has_shape model.clafers scopes) (sym same) ∙ s.shape) lawful;
+            canonical = ap (is_canonical model.clafers) (sym same) ∙ sym (known.tested model.clafers scopes layout bits s.entries on.placed.fits s.shows s.tree s.shape) ∙ right shaped told here;
           }
 
   pub told_lawful : IsOnWires model scopes layout gates structure rules → (laws : List Law) (bits : List Bool) (entries : List Entry)
-      → Shows model.clafers scopes layout bits entries → satisfies_laws model.clafers laws scopes entries ≡ true → TellsLawful model scopes layout gates structure laws bits
-  told_lawful on laws bits entries shows satisfied =
+      → Shows model.clafers scopes layout bits entries → satisfies_laws model.clafers laws scopes entries ≡ true → is_canonical model.clafers entries ≡ true → TellsLawful model scopes layout gates structure laws bits
+  told_lawful on laws bits entries shows satisfied canonical =
       let all = apart (is_within model.clafers scopes entries) (is_tree model.clafers entries) (has_shape model.clafers scopes entries) (list_all (holds model.clafers entries) laws) satisfied in
       let same = known.alone model.clafers scopes layout bits entries on.placed.fits shows in
       let shaped = (known.shaped model.clafers scopes layout bits on.placed.fits on.placed.empty on.placed.acyclic shows.size).1 (record { entries = entries; shows = shows; tree = all.second; shape = all.third }) in
       record {
         count = shows.size;
         shaped = shaped;
-        structured = on.structure_is bits ∙ shaped;
+        structured = on.structure_is bits ∙ both (is_shaped model.clafers scopes layout bits) (are_canonical model.clafers layout bits) shaped
+            (known.tested model.clafers scopes layout bits entries on.placed.fits shows all.second all.third ∙ canonical);
         lawful = ap (λ es. list_all (holds model.clafers es) laws) (sym same) ∙ all.fourth;
       }
 
   -- at shaped bits the wires of the chosen rules are true exactly where the chosen laws hold
-  rules_hold : IsOnWires model scopes layout gates structure rules → (fs : List Bool) (bits : List Bool) → length bits ≡ size layout → is_shaped model.clafers scopes layout bits ≡ true
+  pub rules_hold : IsOnWires model scopes layout gates structure rules → (fs : List Bool) (bits : List Bool) → length bits ≡ size layout → is_shaped model.clafers scopes layout bits ≡ true
       → list_all (λ b. b) (wire_values gates (chosen fs rules) bits) ≡ list_all (holds model.clafers (shown layout bits)) (chosen fs (laws_of model))
   rules_hold on fs bits count shaped =
       ap (list_all (λ b. b)) (sym (chosen-map (λ w. wire_value gates w bits) fs rules) ∙ ap (chosen fs) (on.rules_are bits count shaped) ∙ chosen-map (holds model.clafers (shown layout bits)) fs (laws_of model))
       ∙ list_all-map (λ b. b) (holds model.clafers (shown layout bits)) (chosen fs (laws_of model))
 
-  shaped_there : IsOnWires model scopes layout gates structure rules → (bits : List Bool) → wire_value gates structure bits ≡ true → is_shaped model.clafers scopes layout bits ≡ true
-  shaped_there on bits e = sym (on.structure_is bits) ∙ e
+  pub shaped_there : IsOnWires model scopes layout gates structure rules → (bits : List Bool) → wire_value gates structure bits ≡ true → is_shaped model.clafers scopes layout bits ≡ true
+  shaped_there on bits e = left (is_shaped model.clafers scopes layout bits) (are_canonical model.clafers layout bits) (sym (on.structure_is bits) ∙ e)
 
   -- each instance that satisfies laws has bits
   pub bits_of : IsOnWires model scopes layout gates structure rules → (entries : List Entry) (laws : List Law) → is_ordered entries ≡ true → satisfies_laws model.clafers laws scopes entries ≡ true
@@ -121,48 +132,8 @@ module _ (known : Laws) (model : Model) (scopes : Scopes) (layout : Layout) (gat
       let all = apart (is_within model.clafers scopes entries) (is_tree model.clafers entries) (has_shape model.clafers scopes entries) (list_all (holds model.clafers entries) laws) satisfied in
       known.spelled model.clafers scopes layout entries on.placed.fits on.placed.low on.placed.high all.first ordered all.second all.third
 
-  -- the structure and the chosen rules are true at some bits exactly where some instance satisfies the chosen laws
-  pub bits_are_instances : IsOnWires model scopes layout gates structure rules → (fs : List Bool)
-      → HoldSomewhere gates (structure ∷ chosen fs rules) ↔ SomeLawful model.clafers scopes (chosen fs (laws_of model))
-  bits_are_instances on fs = (instance_of, bits_of_some)
-    where
-      instance_of : HoldSomewhere gates (structure ∷ chosen fs rules) → SomeLawful model.clafers scopes (chosen fs (laws_of model))
-      instance_of h =
-          let count = h.size ∙ size_is on in
-          let first = left (wire_value gates structure h.bits) (list_all (λ b. b) (wire_values gates (chosen fs rules) h.bits)) h.hold in
-          let others = right (wire_value gates structure h.bits) (list_all (λ b. b) (wire_values gates (chosen fs rules) h.bits)) h.hold in
-          let lawful = sym (rules_hold on fs h.bits count (shaped_there on h.bits first)) ∙ others in
-          let s = shown_lawful on (chosen fs (laws_of model)) h.bits count first lawful in
-          record { entries = shown layout h.bits; ordered = s.shows.ordered; satisfied = s.satisfied }
-
-      bits_of_some : SomeLawful model.clafers scopes (chosen fs (laws_of model)) → HoldSomewhere gates (structure ∷ chosen fs rules)
-      bits_of_some s = met (bits_of on s.entries (chosen fs (laws_of model)) s.ordered s.satisfied)
-        where
-          met : (bits : List Bool) × Shows model.clafers scopes layout bits s.entries → HoldSomewhere gates (structure ∷ chosen fs rules)
-          met (bits, shows) =
-              let t = told_lawful on (chosen fs (laws_of model)) bits s.entries shows s.satisfied in
-              record {
-                bits = bits;
-                size = t.count ∙ sym (size_is on);
-                hold = both (wire_value gates structure bits) (list_all (λ b. b) (wire_values gates (chosen fs rules) bits)) t.structured (rules_hold on fs bits t.count t.shaped ∙ t.lawful);
-              }
-
   -- at shaped bits all rules are true exactly where all laws hold
   pub all_rules_hold : IsOnWires model scopes layout gates structure rules → (bits : List Bool) → length bits ≡ size layout → is_shaped model.clafers scopes layout bits ≡ true
       → list_all (λ b. b) (wire_values gates rules bits) ≡ list_all (holds model.clafers (shown layout bits)) (laws_of model)
   all_rules_hold on bits count shaped =
       ap (list_all (λ b. b)) (on.rules_are bits count shaped) ∙ list_all-map (λ b. b) (holds model.clafers (shown layout bits)) (laws_of model)
-
-  -- bits at which structure and rules all are true show an instance of the model
-  pub whole_lawful : IsOnWires model scopes layout gates structure rules → (bits : List Bool) → length bits ≡ size layout → all_hold gates structure rules bits ≡ true → ShowsLawful model scopes layout (laws_of model) bits
-  whole_lawful on bits count hold =
-      let first = left (wire_value gates structure bits) (list_all (λ b. b) (wire_values gates rules bits)) hold in
-      let others = right (wire_value gates structure bits) (list_all (λ b. b) (wire_values gates rules bits)) hold in
-      shown_lawful on (laws_of model) bits count first (sym (all_rules_hold on bits count (shaped_there on bits first)) ∙ others)
-
-  -- and bits that show one make them true
-  pub lawful_whole : IsOnWires model scopes layout gates structure rules → (bits : List Bool) (entries : List Entry)
-      → Shows model.clafers scopes layout bits entries → satisfies_laws model.clafers (laws_of model) scopes entries ≡ true → all_hold gates structure rules bits ≡ true
-  lawful_whole on bits entries shows satisfied =
-      let t = told_lawful on (laws_of model) bits entries shows satisfied in
-      both (wire_value gates structure bits) (list_all (λ b. b) (wire_values gates rules bits)) t.structured (all_rules_hold on bits t.count t.shaped ∙ t.lawful)

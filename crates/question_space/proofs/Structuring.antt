@@ -8,6 +8,7 @@ use Rattle.bool_circuit.specs.declared.gate.Gate.{Gate}
 use Rattle.bool_circuit.specs.declared.gate.Wire.{Wire}
 use Rattle.bool_circuit.specs.Circuit.{wire_value, wire_values, IsWireOf, Extends}
 use Rattle.bool_circuit.proofs.Extending.{wires_stay, wire_values_stay}
+use Rattle.canonical_encoder.specs.Slots.{are_canonical, canonical_cost}
 use Rattle.clf_tree.specs.declared.core_expr.CoreModel.{CoreModel}
 use Rattle.clf_tree.specs.declared.core_expr.CoreExpr.{CoreExpr}
 use Rattle.clf_tree.specs.declared.instance.Entry.{Entry}
@@ -28,13 +29,13 @@ use Rattle.shape_encoder.specs.Reading.{IsLaid}
 use Rattle.shown_instance.specs.Shaped.{is_shaped, ShowsShaped}
 use Rattle.shown_instance.specs.Shown.{shown}
 use Rattle.instance_encoder.specs.Shaping.{shape_cost}
-use Rattle.question_space.specs.Encoding.{IsPlaced, IsWired, IsStructured, TellRules, all_hold}
+use Rattle.question_space.specs.Encoding.{IsArranged, IsPlaced, IsWired, IsStructured, TellRules, all_hold}
 use Rattle.question_space.specs.Wiring.{AreRulesSoFar, IsConjunctionSoFar, IsLowered, truths_cost, meanings}
 use Rattle.question_space.proofs.Inputs.{inputs_are}
 use Rattle.question_space.proofs.Known.{scopes_are_empty}
 use Rattle.question_space.proofs.Shaped.{Laws, four_instance}
 
-take_all_of : {A : Type 0} (xs : List A) → take (length xs) xs ≡ xs
+pub take_all_of : {A : Type 0} (xs : List A) → take (length xs) xs ≡ xs
 take_all_of xs = take_all (length xs) xs (omega arith)
 
 -- 64 bits hold the range
@@ -50,20 +51,13 @@ range_high scopes range = by scopes.low scopes.high range
     by : (low high : ℤ) → not (int_lt high low || int_lt low (neg_ℤ (pos 32768)) || int_lt (pos 32767) high) ≡ true → high <ℤ pos (2 ^ 63)
     by low high h = grind (arith, ints)
 
--- the layout and the wire of the structure
-pub structured_is : (model : Model) (scopes : Scopes) (cs : List Clafer) (layout : Layout) (before after : List Gate) (structure : Wire)
-    → cs ≡ model.clafers → IsTrue (has_range scopes) → Fit model.clafers scopes.of → IsTrue (each model.clafers (λ c. not (contains_itself model.clafers c)))
-    → Fits cs scopes layout → IsRead before (size layout) → length before ≡ size layout → Extends before after (shape_cost cs scopes layout)
+-- the wire of the structure over a layout that is there
+pub framed_is : (model : Model) (scopes : Scopes) (cs : List Clafer) (layout : Layout) (before after : List Gate) (structure : Wire)
+    → cs ≡ model.clafers → IsPlaced model scopes layout → IsRead before (size layout) → length before ≡ size layout → Extends before after (shape_cost cs scopes layout)
     → ((old new : List Gate) (n inputs : ℕ) → Extends old new n → IsRead old inputs → IsRead new inputs)
     → IsWireOf after structure → ((bits : List Bool) → wire_value after structure bits ≡ is_shaped cs scopes layout bits) → IsStructured model scopes layout after structure
-structured_is model scopes cs layout before after structure same range fit acyclic fits reads count grown stays known value = record {
-  placed = record {
-    fits = subst (λ (xs : List Clafer). Fits xs scopes layout) same fits;
-    acyclic = acyclic;
-    empty = scopes_are_empty model.clafers scopes fit;
-    low = range_low scopes range;
-    high = range_high scopes range;
-  };
+framed_is model scopes cs layout before after structure same placed reads count grown stays known value = record {
+  placed = placed;
   reads = stays before after (shape_cost cs scopes layout) (size layout) grown reads;
   inputs = grown.same_inputs ∙ inputs_are before (size layout) reads.count count;
   structure_in = known;
@@ -71,6 +65,39 @@ structured_is model scopes cs layout before after structure same range fit acycl
   few =
       let cost : shape_cost cs scopes layout ≡ shape_cost model.clafers scopes layout = ap (λ (xs : List Clafer). shape_cost xs scopes layout) same in
       omega (arith, cost, grown.at_most, count);
+}
+
+-- the layout and the wire of the structure
+pub structured_is : (model : Model) (scopes : Scopes) (cs : List Clafer) (layout : Layout) (before after : List Gate) (structure : Wire)
+    → cs ≡ model.clafers → IsTrue (has_range scopes) → Fit model.clafers scopes.of → IsTrue (each model.clafers (λ c. not (contains_itself model.clafers c)))
+    → Fits cs scopes layout → IsRead before (size layout) → length before ≡ size layout → Extends before after (shape_cost cs scopes layout)
+    → ((old new : List Gate) (n inputs : ℕ) → Extends old new n → IsRead old inputs → IsRead new inputs)
+    → IsWireOf after structure → ((bits : List Bool) → wire_value after structure bits ≡ is_shaped cs scopes layout bits) → IsStructured model scopes layout after structure
+structured_is model scopes cs layout before after structure same range fit acyclic fits reads count grown stays known value =
+    let placed : IsPlaced model scopes layout = record {
+      fits = subst (λ (xs : List Clafer). Fits xs scopes layout) same fits;
+      acyclic = acyclic;
+      empty = scopes_are_empty model.clafers scopes fit;
+      low = range_low scopes range;
+      high = range_high scopes range;
+    } in
+    framed_is model scopes cs layout before after structure same placed reads count grown stays known value
+
+-- the wire of the structure where it is canonical
+pub arranged_is : (model : Model) (scopes : Scopes) (cs : List Clafer) (layout : Layout) (before after : List Gate) (structure arranged : Wire)
+    → cs ≡ model.clafers → IsStructured model scopes layout before structure → Extends before after (canonical_cost layout)
+    → ((old new : List Gate) (n inputs : ℕ) → Extends old new n → IsRead old inputs → IsRead new inputs)
+    → IsWireOf after arranged → ((bits : List Bool) → wire_value after arranged bits ≡ (wire_value before structure bits && are_canonical cs layout bits))
+    → IsArranged model scopes layout after arranged
+arranged_is model scopes cs layout before after structure arranged same start grown stays known value = record {
+  placed = start.placed;
+  reads = stays before after (canonical_cost layout) (size layout) grown start.reads;
+  inputs = grown.same_inputs ∙ start.inputs;
+  structure_in = known;
+  structure_is = λ bits.
+      value bits ∙ ap (λ (xs : List Clafer). wire_value before structure bits && are_canonical xs layout bits) same
+      ∙ ap (λ b. b && are_canonical model.clafers layout bits) (start.structure_is bits);
+  few = omega (arith, start.few, grown.at_most);
 }
 
 -- at shaped bits the wires of the truths tell which constraints hold
@@ -89,8 +116,8 @@ rules_tell known model scopes core_model layout old new rules placed lowered are
 
 -- there is room for the conjunction
 pub conjunction_room : (model : Model) (scopes : Scopes) (weight : ℕ) (core_model : CoreModel) (layout : Layout) (first second : List Gate) (structure : Wire) (rules given : List Wire)
-    → IsStructured model scopes layout first structure → AreRulesSoFar core_model.clafers scopes layout first core_model.truths (length core_model.truths) second rules
-    → size layout + shape_cost model.clafers scopes layout + (truths_cost scopes core_model.truths + length core_model.truths) ≤ weight → weight ≤ 8000000 → given ≡ rules
+    → IsArranged model scopes layout first structure → AreRulesSoFar core_model.clafers scopes layout first core_model.truths (length core_model.truths) second rules
+    → size layout + shape_cost model.clafers scopes layout + canonical_cost layout + (truths_cost scopes core_model.truths + length core_model.truths) ≤ weight → weight ≤ 8000000 → given ≡ rules
     → length second + length given ≤ 268435456
 conjunction_room model scopes weight core_model layout first second structure rules given start are light small same =
     let cost : truths_cost scopes (take (length core_model.truths) core_model.truths) ≡ truths_cost scopes core_model.truths = ap (truths_cost scopes) (take_all_of core_model.truths) in
@@ -101,10 +128,10 @@ conjunction_room model scopes weight core_model layout first second structure ru
 pub wired_is : (known : Laws) (model : Model) (scopes : Scopes) (weight : ℕ) (core_model : CoreModel) (layout : Layout) (first second last : List Gate) (structure : Wire) (rules : List Wire) (whole : Wire)
     → ((clafers : List Clafer) (sc : Scopes) (l : Layout) (gates : List Gate) → Fits clafers sc l → IsRead gates (size l) → IsLaid gates l)
     → ((old new : List Gate) (n inputs : ℕ) → Extends old new n → IsRead old inputs → IsRead new inputs)
-    → IsLowered model scopes core_model → length core_model.truths ≡ length model.rules → IsStructured model scopes layout first structure
+    → IsLowered model scopes core_model → length core_model.truths ≡ length model.rules → IsArranged model scopes layout first structure
     → AreRulesSoFar core_model.clafers scopes layout first core_model.truths (length core_model.truths) second rules
     → IsConjunctionSoFar second structure rules (length rules) last whole
-    → size layout + shape_cost model.clafers scopes layout + (truths_cost scopes core_model.truths + length core_model.truths) ≤ weight
+    → size layout + shape_cost model.clafers scopes layout + canonical_cost layout + (truths_cost scopes core_model.truths + length core_model.truths) ≤ weight
     → IsWired model scopes weight layout last structure rules whole
 wired_is known model scopes weight core_model layout first second last structure rules whole laid stays lowered each_one start are conj light =
     let n : ℕ = length rules in

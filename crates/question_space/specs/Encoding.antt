@@ -4,6 +4,7 @@ use Rattle.std.specs.List.{list_all}
 use Rattle.bool_circuit.specs.declared.gate.Gate.{Gate}
 use Rattle.bool_circuit.specs.declared.gate.Wire.{Wire}
 use Rattle.bool_circuit.specs.Circuit.{input_wires, wire_value, wire_values, IsWireOf, AreWiresOf}
+use Rattle.canonical_encoder.specs.Slots.{are_canonical, canonical_cost}
 use Rattle.cdcl_search.specs.Progress.{assignment_of}
 use Rattle.clause_store.specs.declared.clause.Literal.{Literal}
 use Rattle.clf_tree.specs.declared.model.Model.{Model}
@@ -35,8 +36,8 @@ TellRules model scopes layout gates rules =
     (bits : List Bool) → length bits ≡ size layout → IsTrue (is_shaped model.clafers scopes layout bits)
     → wire_values gates rules bits ≡ map (holds model.clafers (shown layout bits)) (laws_of model)
 
--- the inputs are the bits of the layout, one wire tells whether bits show a tree of the right shape, and one for each constraint whether it
--- holds in that instance
+-- the inputs are the bits of the layout, one wire tells whether bits show a tree of the right shape that is canonical, and one for each
+-- constraint whether it holds in that instance
 pub record IsOnWires (model : Model) (scopes : Scopes) (layout : Layout) (gates : List Gate) (structure : Wire) (rules : List Wire) : Type 0 where
   pub placed : IsPlaced model scopes layout
   pub laid : IsLaid gates layout
@@ -44,7 +45,8 @@ pub record IsOnWires (model : Model) (scopes : Scopes) (layout : Layout) (gates 
   pub structure_in : IsWireOf gates structure
   pub rules_in : AreWiresOf gates rules
   pub count : length rules ≡ length model.rules
-  pub structure_is : (bits : List Bool) → wire_value gates structure bits ≡ is_shaped model.clafers scopes layout bits
+  pub structure_is : (bits : List Bool)
+      → wire_value gates structure bits ≡ (is_shaped model.clafers scopes layout bits && are_canonical model.clafers layout bits)
   pub rules_are : TellRules model scopes layout gates rules
 
 -- whether a wire and all of some others are true
@@ -71,6 +73,16 @@ pub record IsStructured (model : Model) (scopes : Scopes) (layout : Layout) (gat
   pub structure_in : IsWireOf gates structure
   pub structure_is : (bits : List Bool) → wire_value gates structure bits ≡ is_shaped model.clafers scopes layout bits
   pub few : length gates ≤ size layout + shape_cost model.clafers scopes layout
+
+-- the same with a wire that tells whether what the bits show is canonical, too
+pub record IsArranged (model : Model) (scopes : Scopes) (layout : Layout) (gates : List Gate) (structure : Wire) : Type 0 where
+  pub placed : IsPlaced model scopes layout
+  pub reads : IsRead gates (size layout)
+  pub inputs : input_wires gates ≡ numbers_below (size layout)
+  pub structure_in : IsWireOf gates structure
+  pub structure_is : (bits : List Bool)
+      → wire_value gates structure bits ≡ (is_shaped model.clafers scopes layout bits && are_canonical model.clafers layout bits)
+  pub few : length gates ≤ size layout + shape_cost model.clafers scopes layout + canonical_cost layout
 
 -- the literal that is true where a wire is
 abbrev pub literal_of : Wire → Literal

@@ -1,6 +1,10 @@
+pub mod Amounts
 pub mod Asking
 pub mod Choices
+pub mod Comparisons
 pub mod Encoding
 pub mod Posing
+pub mod Queries
 pub mod Spendings
+pub mod Vectors
 pub mod Wiring

@@ -1,15 +1,20 @@
 //! A model on wires.
 
-ghost use Rattle.std.specs.Prelude.{◌+◌, ◌≤◌, length, IfOk, IsTrue};
+ghost use Rattle.std.specs.Prelude.{◌≡◌, ◌+◌, ◌≤◌, ◌&&◌, Bool, List as Items, not, length, IfOk, IsTrue};
+ghost use Rattle.bool_circuit.specs.Circuit.{IsWireOf, Extends, wire_value};
 ghost use Rattle.bool_circuit.specs.declared.circuit.TheConstants.{MOST_WIRES};
+ghost use Rattle.canonical_encoder.specs.Slots.{are_canonical, canonical_cost};
+ghost use Rattle.clf_tree.specs.Named.{contains_itself, each};
 ghost use Rattle.set_bits.specs.Fitting.{Fits, IsRead, size};
 ghost use Rattle.shown_instance.specs.Consistent.{abstract_are_empty};
 ghost use Rattle.question_space.specs.Encoding.{IsEncoded, IsStructured, IsWired};
-ghost use Rattle.question_space.specs.Wiring.{AreRules, AreSound, IsLowered, truths_cost};
+ghost use Rattle.question_space.specs.Wiring.{AreRules, AreSound, IsLowered, truths_cost, wires_cost};
 
 use crate::laws::questions_are_within_the_weight;
 use crate::rules::{conjunction, rule_wires};
 use bool_circuit::{Circuit, MOST_WIRES, Wire};
+use canonical_encoder::{canonical, canonical_slots_show_canonical_instances};
+use canonical_instances::each_instance_has_a_canonical_one;
 use clf_base::{List, NoMemory};
 use clf_tree::{CoreModel, Scopes};
 use instance_encoder::{layout, shape, shapes_are_within_the_weight};
@@ -58,6 +63,14 @@ struct Wired {
     whole: Wire,
 }
 
+/// The wires of the structure and of the constraints, and that of all of them.
+#[derive(Drop)]
+pub(crate) struct Ruled {
+    pub(crate) structure: Wire,
+    pub(crate) rules: List<Wire>,
+    pub(crate) whole: Wire,
+}
+
 fn structure_of(alloc: Global, read: &Read, core: &CoreModel) -> Result<Structured, NoMemory>
     requires { IsLowered read.now.model read.now.scopes core.now }
     ensures { IfOk result (λ s. IsStructured read.now.model read.now.scopes s.layout s.circuit s.structure) }
@@ -75,6 +88,31 @@ fn structure_of(alloc: Global, read: &Read, core: &CoreModel) -> Result<Structur
         circuit,
         structure,
     })
+}
+
+// The structure where the slots are canonical.
+fn arranged(
+    alloc: Global,
+    circuit: &mut Circuit,
+    core: &CoreModel,
+    scopes: &Scopes,
+    layout: &Layout,
+    structure: Wire,
+) -> Result<Wire, NoMemory>
+    requires fits { Fits core.now.clafers scopes.now layout.now }
+    requires acyclic { IsTrue (each core.now.clafers (λ c. not (contains_itself core.now.clafers c))) }
+    requires read { IsRead circuit.old (size layout.now) }
+    requires structure_in { IsWireOf circuit.old structure }
+    requires room { length circuit.old + canonical_cost layout.now ≤ MOST_WIRES }
+    ensures wire { IfOk result (IsWireOf circuit.new) }
+    ensures value { IfOk result (λ w. (bits : Items Bool)
+        → wire_value circuit.new w bits ≡ (wire_value circuit.old structure bits && are_canonical core.now.clafers layout.now bits)) }
+    ensures extends { Extends circuit.old circuit.new (canonical_cost layout.now) }
+{
+    layouts_that_fit_are_laid();
+    let ground = Ground::new(alloc, core, scopes, layout)?;
+    let wire = canonical(circuit, &ground, structure)?;
+    Ok(wire)
 }
 
 fn rules(
@@ -96,9 +134,19 @@ fn rules(
     Ok(wires)
 }
 
-fn wires_of(alloc: Global, read: &Read, core: &CoreModel) -> Result<Wired, NoMemory>
-    requires { IsLowered read.now.model read.now.scopes core.now }
-    ensures { IfOk result (λ w. IsWired read.now.model read.now.scopes read.now.weight w.layout w.circuit w.structure w.rules w.whole) }
+/// The structure where it is canonical, the constraints, and their conjunction.
+pub(crate) fn with_rules(
+    alloc: Global,
+    read: &Read,
+    core: &CoreModel,
+    layout: &Layout,
+    circuit: &mut Circuit,
+    structure: Wire,
+) -> Result<Ruled, NoMemory>
+    requires lowered { IsLowered read.now.model read.now.scopes core.now }
+    requires structured { IsStructured read.now.model read.now.scopes layout.now circuit.old structure }
+    ensures { IfOk result (λ r. IsWired read.now.model read.now.scopes
+        (wires_cost read.now.model read.now.scopes layout.now core.now.truths) layout.now circuit.new r.structure r.rules r.whole) }
 {
     questions_are_within_the_weight();
     layouts_that_fit_are_laid();
@@ -106,17 +154,41 @@ fn wires_of(alloc: Global, read: &Read, core: &CoreModel) -> Result<Wired, NoMem
     each_instance_has_bits();
     shaped_bits_show_a_tree();
     the_told_instance_alone_is_shown();
+    canonical_slots_show_canonical_instances();
+    each_instance_has_a_canonical_one();
+    let _plan = read.model.model();
+    let right = arranged(alloc, circuit, core, &read.scopes, layout, structure)?;
+    let rules = rules(alloc, circuit, core, &read.scopes, layout)?;
+    let whole = conjunction(circuit, right, rules.as_slice())?;
+    Ok(Ruled {
+        structure: right,
+        rules,
+        whole,
+    })
+}
+
+fn wires_of(alloc: Global, read: &Read, core: &CoreModel) -> Result<Wired, NoMemory>
+    requires { IsLowered read.now.model read.now.scopes core.now }
+    ensures { IfOk result (λ w. IsWired read.now.model read.now.scopes read.now.weight w.layout w.circuit w.structure w.rules w.whole) }
+{
+    questions_are_within_the_weight();
     let _plan = read.model.model();
     let start = structure_of(alloc, read, core)?;
     let mut circuit = start.circuit;
-    let rules = rules(alloc, &mut circuit, core, &read.scopes, &start.layout)?;
-    let whole = conjunction(&mut circuit, start.structure, rules.as_slice())?;
+    let ruled = with_rules(
+        alloc,
+        read,
+        core,
+        &start.layout,
+        &mut circuit,
+        start.structure,
+    )?;
     Ok(Wired {
         layout: start.layout,
         circuit,
-        structure: start.structure,
-        rules,
-        whole,
+        structure: ruled.structure,
+        rules: ruled.rules,
+        whole: ruled.whole,
     })
 }
 

@@ -5,15 +5,20 @@
 #![tactic(auto)]
 
 mod claims;
+mod comparing;
 mod encoded;
+mod goals;
 mod laws;
 mod posing;
+mod questions;
+mod replies;
 mod rules;
 mod space;
 mod spending;
+mod vectors;
 mod verdicts;
 
 pub use claims::{Answer, Claim};
-pub use laws::questions_are_within_the_weight;
+pub use laws::{goals_are_within_the_weight, questions_are_within_the_weight};
 pub use space::Space;
 pub use spending::Spending;
