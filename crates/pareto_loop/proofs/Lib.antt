@@ -1,0 +1,6 @@
+pub mod Gapping
+pub mod Small
+pub mod Telling
+pub mod Climbing
+pub mod Placing
+pub mod Ending
