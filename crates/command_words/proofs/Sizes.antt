@@ -1,5 +1,5 @@
 -- How large numbers of few digits are.
-use Rattle.std.proofs.Common.{◌≡◌, ◌∙◌, sym, refl, ap, ℕ, zero, suc, ◌+◌, ◌*◌, ◌-◌, ◌^◌, ◌<◌, ◌≤◌, Bool, true, false, true≢false, List, length, get_or, arith}
+use Rattle.std.proofs.Common.{◌≡◌, ◌∙◌, sym, refl, ap, ℕ, suc, ◌+◌, ◌*◌, ◌-◌, ◌^◌, ◌<◌, ◌≤◌, Bool, true, false, true≢false, List, length, get_or, arith}
 use Rattle.std.specs.List.{list_all}
 use Rattle.std.specs.Char.{is_ascii_digit}
 use Rattle.std.proofs.Math.Nat.{pow-suc, pow-le-pow_right}
@@ -26,4 +26,5 @@ digit_small b h = grind (arith, common_steps)
 
 -- each byte of digits is one
 pub digit_at : (xs : List ℕ) (i : ℕ) → list_all is_ascii_digit xs ≡ true → i < length xs → get_or xs i 0 - 48 ≤ 9
-digit_at xs i h l = digit_small (get_or xs i 0) (passes (is_ascii_digit (get_or xs i 0)) (λ f. true≢false (sym h ∙ list_all_at is_ascii_digit xs i 0 l f)))
+digit_at xs i h l = digit_small (get_or xs i 0) (passes (is_ascii_digit (get_or xs i 0))
+    (λ f. true≢false (sym h ∙ list_all_at is_ascii_digit xs i 0 l f)))

@@ -3,8 +3,9 @@
 ghost use Rattle.std.specs.Prelude.{◌≡◌, ◌≤◌, length, IfOk, IfSome};
 ghost use Rattle.command_words.specs.Words as spec;
 
-use crate::numbers::{begins_with_dash, budget, integer, number};
+use crate::numbers::{begins_with_dash, budget, generated_model, integer, number};
 use crate::settings::{Setting, given_scope, setting_named};
+use crate::wanted::Wanted;
 use clf_base::{List, NoMemory};
 use clf_tree::GivenScope;
 use std::alloc::Global;
@@ -12,8 +13,10 @@ use std::alloc::Global;
 /// What the words have asked for so far.
 #[derive(Debug, Drop)]
 pub struct Asked {
-    /// `one` was there.
-    pub one: bool,
+    /// `one` or `front` was there.
+    pub wanted: Option<Wanted>,
+    /// `--json` was there.
+    pub json: bool,
     /// `--` was there, so no setting comes any more.
     pub ended: bool,
     /// A setting whose value is the next word.
@@ -26,15 +29,19 @@ pub struct Asked {
     pub budget: Option<u64>,
     /// What the guide is given.
     pub seed: Option<u64>,
+    /// The number of a generated model, 1 to 80.
+    pub generate: Option<u32>,
 }
 
 impl Asked {
     /// Nothing, which takes no memory.
     pub fn nothing(alloc: Global) -> Asked
-        ensures { result ≡ spec.nothing_asked }
+        ensures is { result ≡ spec.nothing_asked }
+        ensures bounded { spec.IsBounded result }
     {
         Asked {
-            one: false,
+            wanted: None,
+            json: false,
             ended: false,
             awaited: None,
             scopes: List::new(alloc),
@@ -43,14 +50,15 @@ impl Asked {
             high: None,
             budget: None,
             seed: None,
+            generate: None,
         }
     }
 }
 
 fn with_scope(asked: Asked, scope: Option<GivenScope>) -> Result<Option<Asked>, NoMemory>
-    requires { spec.HasBudget asked }
+    requires { spec.IsBounded asked }
     ensures is { IfOk result (λ more. more ≡ spec.with_scope asked scope) }
-    ensures budget { IfOk result (λ more. IfSome more spec.HasBudget) }
+    ensures bounded { IfOk result (λ more. IfSome more spec.IsBounded) }
 {
     let Some(scope) = scope else {
         return Ok(None);
@@ -65,9 +73,9 @@ fn with_scope(asked: Asked, scope: Option<GivenScope>) -> Result<Option<Asked>, 
 }
 
 fn with_default(asked: Asked, most: Option<u64>) -> Option<Asked>
-    requires { spec.HasBudget asked }
+    requires { spec.IsBounded asked }
     ensures is { result ≡ spec.with_default asked most }
-    ensures budget { IfSome result spec.HasBudget }
+    ensures bounded { IfSome result spec.IsBounded }
 {
     if asked.default.is_some() {
         return None;
@@ -81,9 +89,9 @@ fn with_default(asked: Asked, most: Option<u64>) -> Option<Asked>
 }
 
 fn with_low(asked: Asked, low: Option<i64>) -> Option<Asked>
-    requires { spec.HasBudget asked }
+    requires { spec.IsBounded asked }
     ensures is { result ≡ spec.with_low asked low }
-    ensures budget { IfSome result spec.HasBudget }
+    ensures bounded { IfSome result spec.IsBounded }
 {
     if asked.low.is_some() {
         return None;
@@ -97,9 +105,9 @@ fn with_low(asked: Asked, low: Option<i64>) -> Option<Asked>
 }
 
 fn with_high(asked: Asked, high: Option<i64>) -> Option<Asked>
-    requires { spec.HasBudget asked }
+    requires { spec.IsBounded asked }
     ensures is { result ≡ spec.with_high asked high }
-    ensures budget { IfSome result spec.HasBudget }
+    ensures bounded { IfSome result spec.IsBounded }
 {
     if asked.high.is_some() {
         return None;
@@ -113,9 +121,10 @@ fn with_high(asked: Asked, high: Option<i64>) -> Option<Asked>
 }
 
 fn with_budget(asked: Asked, budget: Option<u64>) -> Option<Asked>
-    requires { IfSome budget spec.IsBudget }
+    requires asked { spec.IsBounded asked }
+    requires budget { IfSome budget spec.IsBudget }
     ensures is { result ≡ spec.with_budget asked budget }
-    ensures budget { IfSome result spec.HasBudget }
+    ensures bounded { IfSome result spec.IsBounded }
 {
     if asked.budget.is_some() {
         return None;
@@ -129,9 +138,9 @@ fn with_budget(asked: Asked, budget: Option<u64>) -> Option<Asked>
 }
 
 fn with_seed(asked: Asked, seed: Option<u64>) -> Option<Asked>
-    requires { spec.HasBudget asked }
+    requires { spec.IsBounded asked }
     ensures is { result ≡ spec.with_seed asked seed }
-    ensures budget { IfSome result spec.HasBudget }
+    ensures bounded { IfSome result spec.IsBounded }
 {
     if asked.seed.is_some() {
         return None;
@@ -139,6 +148,23 @@ fn with_seed(asked: Asked, seed: Option<u64>) -> Option<Asked>
     let seed = seed?;
     Some(Asked {
         seed: Some(seed),
+        awaited: None,
+        ..asked
+    })
+}
+
+fn with_generate(asked: Asked, model: Option<u32>) -> Option<Asked>
+    requires asked { spec.IsBounded asked }
+    requires model { IfSome model spec.IsModel }
+    ensures is { result ≡ spec.with_generate asked model }
+    ensures bounded { IfSome result spec.IsBounded }
+{
+    if asked.generate.is_some() {
+        return None;
+    }
+    let model = model?;
+    Some(Asked {
+        generate: Some(model),
         awaited: None,
         ..asked
     })
@@ -152,9 +178,9 @@ fn with_value(
     value: &[u8],
     asked: Asked,
 ) -> Result<Option<Asked>, NoMemory>
-    requires { spec.HasBudget asked }
+    requires { spec.IsBounded asked }
     ensures is { IfOk result (λ more. more ≡ spec.with_value setting value.now asked) }
-    ensures budget { IfOk result (λ more. IfSome more spec.HasBudget) }
+    ensures bounded { IfOk result (λ more. IfSome more spec.IsBounded) }
 {
     match setting {
         Setting::Scope => {
@@ -166,6 +192,7 @@ fn with_value(
         Setting::IntHigh => Ok(with_high(asked, integer(value))),
         Setting::Budget => Ok(with_budget(asked, budget(value))),
         Setting::Seed => Ok(with_seed(asked, number(value))),
+        Setting::Generate => Ok(with_generate(asked, generated_model(value))),
     }
 }
 
@@ -185,9 +212,9 @@ fn with_setting(
     asked: Asked,
     setting: Setting,
 ) -> Result<Option<Asked>, NoMemory>
-    requires { spec.HasBudget asked }
+    requires { spec.IsBounded asked }
     ensures is { IfOk result (λ more. more ≡ spec.with_setting word.now asked setting) }
-    ensures budget { IfOk result (λ more. IfSome more spec.HasBudget) }
+    ensures bounded { IfOk result (λ more. IfSome more spec.IsBounded) }
 {
     let name = name_length(word);
     if name < word.len() {
@@ -199,18 +226,48 @@ fn with_setting(
     }))
 }
 
+/// With what is asked for; None where that was said before.
+fn with_wanted(asked: Asked, word: Wanted) -> Option<Asked>
+    requires { spec.IsBounded asked }
+    ensures is { result ≡ spec.with_wanted asked word }
+    ensures bounded { IfSome result spec.IsBounded }
+{
+    if asked.wanted.is_some() {
+        return None;
+    }
+    Some(Asked {
+        wanted: Some(word),
+        ..asked
+    })
+}
+
+/// With the word for JSON; None where it was there before.
+fn with_json(asked: Asked) -> Option<Asked>
+    requires { spec.IsBounded asked }
+    ensures is { result ≡ spec.with_json asked }
+    ensures bounded { IfSome result spec.IsBounded }
+{
+    if asked.json {
+        return None;
+    }
+    Some(Asked {
+        json: true,
+        ..asked
+    })
+}
+
 /// With a word that isn't the value of the setting before it.
 #[tactic(auto, unfolding(crate::specs::Words::with_free_word))]
 fn with_free_word(alloc: Global, word: &[u8], asked: Asked) -> Result<Option<Asked>, NoMemory>
-    requires { spec.HasBudget asked }
+    requires { spec.IsBounded asked }
     ensures is { IfOk result (λ more. more ≡ spec.with_free_word word.now asked) }
-    ensures budget { IfOk result (λ more. IfSome more spec.HasBudget) }
+    ensures bounded { IfOk result (λ more. IfSome more spec.IsBounded) }
 {
     if word == b"one".as_slice() {
-        if asked.one {
-            return Ok(None);
-        }
-        return Ok(Some(Asked { one: true, ..asked }));
+        return Ok(with_wanted(asked, Wanted::One));
+    }
+    if word == b"front".as_slice() {
+        return Ok(with_wanted(asked, Wanted::Front));
     }
     if asked.ended {
         return Ok(None);
@@ -221,6 +278,9 @@ fn with_free_word(alloc: Global, word: &[u8], asked: Asked) -> Result<Option<Ask
             ..asked
         }));
     }
+    if word == b"--json".as_slice() {
+        return Ok(with_json(asked));
+    }
     match setting_named(&word[..name_length(word)]) {
         Some(setting) => with_setting(alloc, word, asked, setting),
         None => Ok(None),
@@ -230,9 +290,9 @@ fn with_free_word(alloc: Global, word: &[u8], asked: Asked) -> Result<Option<Ask
 /// With one more word; None where it can't stand there.
 #[tactic(auto, unfolding(crate::specs::Words::with_word))]
 pub(crate) fn with_word(alloc: Global, word: &[u8], asked: Asked) -> Result<Option<Asked>, NoMemory>
-    requires { spec.HasBudget asked }
+    requires { spec.IsBounded asked }
     ensures is { IfOk result (λ more. more ≡ spec.with_word word.now asked) }
-    ensures budget { IfOk result (λ more. IfSome more spec.HasBudget) }
+    ensures bounded { IfOk result (λ more. IfSome more spec.IsBounded) }
 {
     match asked.awaited {
         Some(setting) => {

@@ -7,5 +7,7 @@ mod reading;
 mod settings;
 #[cfg(test)]
 mod tests;
+mod wanted;
 
 pub use reading::{Request, words_of};
+pub use wanted::Wanted;

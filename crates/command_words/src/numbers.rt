@@ -60,6 +60,23 @@ pub(crate) fn budget(text: &[u8]) -> Option<u64>
     }
 }
 
+/// The greatest number of a generated model.
+const MOST_MODEL: u64 = 80;
+
+/// The number of a generated model that 1 to 18 digits write, from 1 to 80.
+#[tactic(auto, unfolding(crate::specs::Words::model_of))]
+pub(crate) fn generated_model(text: &[u8]) -> Option<u32>
+    ensures value { result ≡ spec.model_of text.now }
+    ensures bounds { IfSome result spec.IsModel }
+{
+    let value = number(text)?;
+    if value >= 1 && value <= MOST_MODEL {
+        Some(value as u32)
+    } else {
+        None
+    }
+}
+
 pub(crate) fn begins_with_dash(text: &[u8]) -> bool
     ensures { result ≡ spec.begins_with_dash text.now }
 {

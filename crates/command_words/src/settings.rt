@@ -25,6 +25,8 @@ pub enum Setting {
     Budget,
     /// What the guide is given.
     Seed,
+    /// The number of a generated model, 1 to 80, which is then answered in place of the text.
+    Generate,
 }
 
 /// The setting of a name.
@@ -44,6 +46,8 @@ pub(crate) fn setting_named(name: &[u8]) -> Option<Setting>
         Some(Setting::Budget)
     } else if name == b"--seed".as_slice() {
         Some(Setting::Seed)
+    } else if name == b"--generate".as_slice() {
+        Some(Setting::Generate)
     } else {
         None
     }

@@ -10,8 +10,7 @@ fn words(alloc: Global, texts: &[&str]) -> Result<Vec<String>, AllocError> {
 }
 
 // Words that have no reading.
-const NONE: [&[&str]; 14] = [
-    &[],
+const NONE: [&[&str]; 24] = [
     &["one", "one"],
     &["two"],
     &["one", "--scope"],
@@ -25,6 +24,17 @@ const NONE: [&[&str]; 14] = [
     &["one", "--help"],
     &["--", "one", "--int-low=5"],
     &["one", "--", "--"],
+    &["one", "front"],
+    &["front", "front"],
+    &["--json", "--json"],
+    &["--json=x"],
+    &["--", "--json"],
+    &["--generate", "81"],
+    &["--generate=0"],
+    &["--generate=8", "--generate=8"],
+    &["--generate=8", "--json"],
+    &["one", "--generate=8"],
+    &["--generate"],
 ];
 
 #[test]
