@@ -15,6 +15,6 @@ mod reading_tests;
 mod tests;
 mod tree;
 
-pub use names::push_path;
+pub use names::{push_node, push_path};
 pub use reading::read;
 pub use tree::show;

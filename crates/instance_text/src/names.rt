@@ -81,7 +81,7 @@ pub(crate) fn push_clafer(
 }
 
 /// Writes a node: its clafer, `$` and its number.
-pub(crate) fn push_node(text: &mut List<u8>, clafers: &[Clafer], node: Node) -> Result<(), NoMemory>
+pub fn push_node(text: &mut List<u8>, clafers: &[Clafer], node: Node) -> Result<(), NoMemory>
     ensures { OnOk result (text.new ≡ text.old ++ spec.shown_node clafers.now node) }
 {
     let mut buffer = Buffer::new();

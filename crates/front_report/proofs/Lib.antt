@@ -1,0 +1,4 @@
+pub mod Lines
+pub mod Reasons
+pub mod Totals
+pub mod Rows

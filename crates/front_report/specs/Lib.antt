@@ -1,0 +1,5 @@
+pub mod Refusals
+pub mod Head
+pub mod Points
+pub mod Texts
+pub mod Summary
