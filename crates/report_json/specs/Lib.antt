@@ -1,0 +1,4 @@
+pub mod TreeOrder
+pub mod Json
+pub mod Data
+pub mod Commas
