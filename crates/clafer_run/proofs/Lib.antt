@@ -1,3 +1,4 @@
 pub mod Answered
+pub mod Halting
 pub mod Known
-pub mod Lines
+pub mod Sums

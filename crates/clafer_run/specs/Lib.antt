@@ -1,6 +1,6 @@
 pub mod Words
 pub mod Report
-pub mod Refusals
+pub mod Fronts
 pub mod Model
 pub mod Outcome
 pub mod Run

@@ -1,40 +1,38 @@
--- The reports.
-use Rattle.std.specs.Prelude.{ℕ, not, List, [], ◌∷◌, ◌++◌, length, count_by, codes, decimal}
-use Rattle.std.specs.Fmt.{signed_decimal}
-use Rattle.std.specs.List.{flat_map, filter, range_with_len}
-use Rattle.clf_tree.specs.declared.model.Clafer.{Clafer}
-use Rattle.clf_tree.specs.declared.model.Model.{Model}
-use Rattle.clf_tree.specs.declared.instance.Entry.{Entry}
-use Rattle.clf_tree.specs.declared.scopes.Scopes.{Scopes}
-use Rattle.clf_tree.specs.Hierarchy.{is_concrete}
-use Rattle.clf_tree.specs.Nodes.{scope_of}
-use Rattle.instance_text.specs.Names.{path_of}
-use Rattle.instance_text.specs.Show.{show}
+-- The reports of a run.
+use Rattle.std.specs.Prelude.{ℕ, List, [], if◌then◌else◌}
+use Rattle.std.specs.Option.{option_map_or}
+use Rattle.clf_tree.specs.declared.instance.Instance.{Instance}
+use Rattle.clf_tree.specs.declared.vector.Front.{Front}
+use Rattle.clf_tree.specs.declared.vector.FrontEnd.TheVariants.{Finished}
+use Rattle.command_words.specs.declared.reading.Request.{Request}
+use Rattle.model_reader.specs.declared.reader.Read.{Read}
+use Rattle.front_report.specs.declared.outcome.Outcome.{Outcome}
+use Rattle.front_report.specs.declared.outcome.Outcome.TheVariants as told
+use Rattle.front_report.specs.Summary.{summary}
+use Rattle.front_report.specs.Texts.{text_report}
+use Rattle.report_json.specs.Json.{json_report}
 
--- the path of a clafer and its scope
-abbrev pub scope_line : List Clafer → Scopes → ℕ → List ℕ
-scope_line clafers scopes c = path_of clafers c ++ codes " " ++ decimal (scope_of scopes c) ++ codes "\n"
+-- as text or as JSON
+abbrev pub report : Request → Read → Outcome → List ℕ
+report request read outcome =
+    if request.json then json_report read.model read.scopes outcome else text_report read.model read.scopes outcome
 
-abbrev pub scope_lines : List Clafer → Scopes → List ℕ
-scope_lines clafers scopes = flat_map (scope_line clafers scopes) (filter (is_concrete clafers) (range_with_len 0 (length clafers)))
+-- of a generated model there is a summary in place of a report
+abbrev pub summary_or : Request → Front → List ℕ → List ℕ
+summary_or request found otherwise = option_map_or (λ number. summary number found) request.generate otherwise
 
--- how many concrete clafers there are, their scopes, and the range of integers
-abbrev pub range_line : Scopes → List ℕ
-range_line scopes = codes "ints " ++ signed_decimal scopes.low ++ codes ".." ++ signed_decimal scopes.high ++ codes "\n"
+-- a front of nothing, with its one claim
+abbrev pub nothing_found : Front
+nothing_found = record { points = []; ended = Finished; claims = 1 }
 
-abbrev pub count_line : List Clafer → List ℕ
-count_line clafers = codes "scopes " ++ decimal (count_by (λ k. not k.is_abstract) clafers) ++ codes "\n"
+abbrev pub instance_report : Request → Read → Instance → List ℕ
+instance_report request read found = report request read (told.One found)
 
-abbrev pub head : List Clafer → Scopes → List ℕ
-head clafers scopes = count_line clafers ++ scope_lines clafers scopes ++ range_line scopes
+abbrev pub no_instance_report : Request → Read → List ℕ
+no_instance_report request read = summary_or request nothing_found (report request read told.NoInstance)
 
--- the head, then the trees of the instance
-abbrev pub instance_report : Model → Scopes → List Entry → List ℕ
-instance_report model scopes entries = head model.clafers scopes ++ codes "instance\n" ++ show model entries
+abbrev pub spent_report : Request → Read → List ℕ
+spent_report request read = report request read told.OneSpent
 
-abbrev pub no_instance_report : Model → Scopes → List ℕ
-no_instance_report model scopes = head model.clafers scopes ++ codes "no instance\nclaims 1\n"
-
--- the head, and that the budget is spent before any instance was found
-abbrev pub spent_report : Model → Scopes → List ℕ
-spent_report model scopes = head model.clafers scopes ++ codes "unfinished E100 0\nclaims 0\n"
+abbrev pub front_report : Request → Read → Front → List ℕ
+front_report request read found = summary_or request found (report request read (told.Front found))

@@ -3,10 +3,12 @@
 
 mod answer;
 mod ending;
+mod fronts;
 mod input;
+mod instances;
 mod output;
-mod refusals;
-mod report;
+mod reply;
+mod reports;
 mod respond;
 mod top_call;
 

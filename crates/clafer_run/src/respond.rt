@@ -4,10 +4,10 @@ ghost use Rattle.clf_base.specs.Causes.{Rose};
 ghost use Rattle.clafer_run.specs.Words.{ReadsSource};
 ghost use Rattle.clafer_run.specs.Run.{IsAnswer, ReadsWithinLimit};
 
-use crate::answer::{Reply, answer_to, told};
+use crate::answer::{answer_to, answer_to_generated, told_too_long};
 use crate::ending::Ending;
 use crate::input::{Stop, Text, read_text};
-use crate::refusals::nowhere;
+use crate::reply::Reply;
 use clf_base::{List, Source, Status};
 use command_words::words_of;
 use search_guide::Guide;
@@ -30,16 +30,15 @@ pub(crate) fn respond<S: Source>(
 {
     let Some(request) = words_of(alloc, words)? else {
         return Ok(Reply {
-            ending: Ending {
-                status: Status::BadWords,
-                spent: None,
-                closed: None,
-            },
+            ending: Ending::bare(Status::BadWords),
             output: List::from_slice(alloc, b"error words\n")?,
         });
     };
+    if let Some(number) = request.generate {
+        return Ok(answer_to_generated(alloc, &request, number, guide)?);
+    }
     match read_text(alloc, source)? {
-        Text::TooLong => Ok(told(alloc, nowhere(10, 1_048_577))?),
+        Text::TooLong => Ok(told_too_long(alloc)?),
         Text::Whole(text) => Ok(answer_to(alloc, &request, text.as_slice(), guide)?),
     }
 }

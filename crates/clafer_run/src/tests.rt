@@ -22,7 +22,7 @@ struct Case {
     output: &'static [u8],
 }
 
-const CASES: [Case; 17] = [
+const CASES: [Case; 21] = [
     // the empty text has the empty instance
     Case {
         words: &["one"],
@@ -65,10 +65,38 @@ const CASES: [Case; 17] = [
         output: b"error words\n",
     },
     Case {
-        words: &[],
+        words: &["one", "front"],
         text: b"a\n",
         status: Status::BadWords,
         output: b"error words\n",
+    },
+    // the front, which is asked for where no word says what is
+    Case {
+        words: &[],
+        text: b"a\n",
+        status: Status::Done,
+        output: b"scopes 1\na 1\nints -2048..2047\nfront 1\npoint\na$0\nclaims 2\n",
+    },
+    // of two goals each feature serves one
+    Case {
+        words: &["front"],
+        text: b"a\n    b ?\n    c ?\n    [ !b || !c ]\n<< max #a.b >>\n<< max #a.c >>\n",
+        status: Status::Done,
+        output: b"scopes 3\na 1\na.b 1\na.c 1\nints -2048..2047\nfront 2\npoint 1 0\na$0\n  b$0\npoint 0 1\na$0\n  c$0\nclaims 3\n",
+    },
+    // of all values none is better both ways
+    Case {
+        words: &["--int-low=-1", "--int-high=1", "front"],
+        text: b"a -> int\n<< min sum a >>\n<< max sum a >>\n",
+        status: Status::Done,
+        output: b"scopes 1\na 1\nints -1..1\nfront 3\npoint -1 -1\na$0 = -1\npoint 0 0\na$0 = 0\npoint 1 1\na$0 = 1\nclaims 4\n",
+    },
+    // a front of nothing
+    Case {
+        words: &["front"],
+        text: b"a\n    b ?\n    [ b ]\n    [ !b ]\n<< max #a.b >>\n",
+        status: Status::NoInstance,
+        output: b"scopes 2\na 1\na.b 1\nints -2048..2047\nno instance\nclaims 1\n",
     },
     // two names on a line
     Case {
