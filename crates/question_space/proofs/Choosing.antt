@@ -1,5 +1,5 @@
 -- What is chosen of a list, and what a question asks of a vector.
-use Rattle.std.proofs.Common.{◌≡◌, ℕ, ◌+◌, Bool, true, false, ◌&&◌, List, [], ◌∷◌, ◌++◌, length, map, refl, sym, ap, ◌∙◌, arith}
+use Rattle.std.proofs.Common.{◌≡◌, ◌+◌, Bool, true, false, ◌&&◌, List, [], ◌∷◌, ◌++◌, length, map, refl, sym, ap, ◌∙◌, arith}
 use Rattle.std.specs.Prelude.{ℤ, Option, Some, None, if◌then◌else◌}
 use Rattle.std.specs.List.{All, list_all}
 use Rattle.std.specs.Option.{option_map_or}
@@ -19,7 +19,8 @@ chosen-map f (true ∷ fs) (x ∷ xs) = ap (λ ys. f x ∷ ys) (chosen-map f fs 
 chosen-map f (false ∷ fs) (x ∷ xs) = chosen-map f fs xs
 
 -- with a flag for each of the first items, of two lists those chosen of each
-pub chosen-append : {X : Type 0} (fs gs : List Bool) (xs ys : List X) → length fs ≡ length xs → chosen (fs ++ gs) (xs ++ ys) ≡ chosen fs xs ++ chosen gs ys
+pub chosen-append : {X : Type 0} (fs gs : List Bool) (xs ys : List X) → length fs ≡ length xs
+    → chosen (fs ++ gs) (xs ++ ys) ≡ chosen fs xs ++ chosen gs ys
 chosen-append [] gs [] ys e = refl
 chosen-append [] gs (x ∷ xs) ys e = absurd (omega (arith, e))
 chosen-append (b ∷ fs) gs [] ys e = absurd (omega (arith, e))
@@ -51,12 +52,14 @@ and_true false = refl
 abbrev last_tests : List Bool → Option Vector → List ℤ → List Bool
 last_tests ways improve v = option_map_or (λ w. dominates ways v w.values ∷ []) improve []
 
-last_admits : (ways : List Bool) (improve : Option Vector) (v : List ℤ) → list_all (λ b. b) (last_tests ways improve v) ≡ option_map_or (λ w. dominates ways v w.values) improve true
+last_admits : (ways : List Bool) (improve : Option Vector) (v : List ℤ)
+    → list_all (λ b. b) (last_tests ways improve v) ≡ option_map_or (λ w. dominates ways v w.values) improve true
 last_admits ways None v = refl
 last_admits ways (Some w) v = and_true (dominates ways v w.values)
 
 -- a question admits a vector where all its tests are true
-pub tests_admit : (ways : List Bool) (question : Question) (v : List ℤ) → list_all (λ b. b) (question_tests ways question v) ≡ admits ways question v
+pub tests_admit : (ways : List Bool) (question : Question) (v : List ℤ)
+    → list_all (λ b. b) (question_tests ways question v) ≡ admits ways question v
 tests_admit ways question v =
     let first : Vector → Bool = λ (f : Vector). is_better_somewhere ways v f.values in
     all_append (map first question.found) (last_tests ways question.improve v)
@@ -81,8 +84,10 @@ pub chosen_tests : (ways : List Bool) (choice : Choice) (question : Question) (v
 chosen_tests ways choice question v count =
     let first : Vector → Bool = λ (f : Vector). is_better_somewhere ways v f.values in
     let long : length choice.found ≡ length (map first question.found) = count ∙ sym (length_map first question.found) in
-    chosen-append choice.found (option_map_or (λ w. choice.improve ∷ []) question.improve []) (map first question.found) (last_tests ways question.improve v) long
-    ∙ ap (λ bs. bs ++ chosen (option_map_or (λ w. choice.improve ∷ []) question.improve []) (last_tests ways question.improve v)) (chosen-map first choice.found question.found)
+    chosen-append choice.found (option_map_or (λ w. choice.improve ∷ []) question.improve []) (map first question.found)
+    (last_tests ways question.improve v) long
+    ∙ ap (λ bs. bs ++ chosen (option_map_or (λ w. choice.improve ∷ []) question.improve []) (last_tests ways question.improve v))
+    (chosen-map first choice.found question.found)
     ∙ ap (λ bs. map first (chosen choice.found question.found) ++ bs) (last_chosen ways choice.improve question.improve v)
   where
     length_map : {X : Type 0} (test : X → Bool) (xs : List X) → length (map test xs) ≡ length xs

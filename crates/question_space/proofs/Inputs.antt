@@ -18,7 +18,8 @@ inputs_few n (Xor a b ∷ gates) = omega (arith, inputs_few (n + 1) gates)
 inputs_few n (Choose p a b ∷ gates) = omega (arith, inputs_few (n + 1) gates)
 
 -- with as many inputs as gates each gate is one
-inputs_all : (n : ℕ) (gates : List Gate) → length (inputs_from n gates) ≡ length gates → inputs_from n gates ≡ range_with_len n (length gates)
+inputs_all : (n : ℕ) (gates : List Gate) → length (inputs_from n gates) ≡ length gates
+    → inputs_from n gates ≡ range_with_len n (length gates)
 inputs_all n [] e = refl
 inputs_all n (Input j ∷ gates) e = ap (λ ns. n ∷ ns) (inputs_all (n + 1) gates (omega (arith, e)))
 inputs_all n (Constant b ∷ gates) e = absurd (omega (arith, e, inputs_few (n + 1) gates))

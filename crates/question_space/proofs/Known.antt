@@ -24,7 +24,8 @@ all_of p (x ∷ xs) each = ap (λ b. b && list_all p xs) (each x) ∙ all_of p x
 
 -- abstract clafers have the scope 0
 pub scopes_are_empty : (clafers : List Clafer) (scopes : Scopes) → Fit clafers scopes.of → IsTrue (abstract_are_empty clafers scopes)
-scopes_are_empty clafers scopes fit = all_of (λ c. is_concrete clafers c || (scope_of scopes c == 0)) (numbers_below (length clafers)) (λ c. by c (is_concrete clafers c) refl)
+scopes_are_empty clafers scopes fit = all_of (λ c. is_concrete clafers c || (scope_of scopes c == 0)) (numbers_below (length clafers))
+    (λ c. by c (is_concrete clafers c) refl)
   where
     by : (c : ℕ) (b : Bool) → is_concrete clafers c ≡ b → (b || (scope_of scopes c == 0)) ≡ true
     by c true e = refl

@@ -1,5 +1,5 @@
 -- Bits of a layout at which wires are true, and the instances of the model.
-use Rattle.std.proofs.Common.{◌≡◌, Bool, true, false, ◌&&◌, List, ◌∷◌, length, refl, sym, ap, subst, ◌∙◌, IsTrue}
+use Rattle.std.proofs.Common.{◌≡◌, Bool, true, false, ◌&&◌, List, length, refl, sym, ap, subst, ◌∙◌, IsTrue}
 use Rattle.std.specs.Prelude.{◌↔◌, ◌≤ℤ◌, ◌<ℤ◌, ◌^◌, not, pos, neg_ℤ}
 use Rattle.std.specs.List.{list_all}
 use Rattle.std.proofs.lemmas.Bool.{false≢true}
@@ -32,10 +32,18 @@ use Rattle.question_space.proofs.Units.{both, left, right}
 
 -- what is known of bits and of what they show
 pub record Laws : Type 0 where
-  pub shaped : (clafers : List Clafer) (scopes : Scopes) (layout : Layout) (bits : List Bool) → Fits clafers scopes layout → IsTrue (abstract_are_empty clafers scopes) → IsTrue (each clafers (λ c. not (contains_itself clafers c))) → length bits ≡ size layout → IsTrue (is_shaped clafers scopes layout bits) ↔ ShowsShaped clafers scopes layout bits
-  pub alone : (clafers : List Clafer) (scopes : Scopes) (layout : Layout) (bits : List Bool) (entries : List Entry) → Fits clafers scopes layout → Shows clafers scopes layout bits entries → entries ≡ shown layout bits
-  pub spelled : (clafers : List Clafer) (scopes : Scopes) (layout : Layout) (entries : List Entry) → Fits clafers scopes layout → neg_ℤ (pos (2 ^ 63)) ≤ℤ scopes.low → scopes.high <ℤ pos (2 ^ 63) → IsTrue (is_within clafers scopes entries) → IsTrue (is_ordered entries) → IsTrue (is_tree clafers entries) → IsTrue (has_shape clafers scopes entries) → (bits : List Bool) × Shows clafers scopes layout bits entries
-  pub tested : (clafers : List Clafer) (scopes : Scopes) (layout : Layout) (bits : List Bool) (entries : List Entry) → Fits clafers scopes layout → Shows clafers scopes layout bits entries → IsTrue (is_tree clafers entries) → IsTrue (has_shape clafers scopes entries) → are_canonical clafers layout bits ≡ is_canonical clafers entries
+  pub shaped : (clafers : List Clafer) (scopes : Scopes) (layout : Layout) (bits : List Bool) → Fits clafers scopes layout
+      → IsTrue (abstract_are_empty clafers scopes) → IsTrue (each clafers (λ c. not (contains_itself clafers c)))
+      → length bits ≡ size layout → IsTrue (is_shaped clafers scopes layout bits) ↔ ShowsShaped clafers scopes layout bits
+  pub alone : (clafers : List Clafer) (scopes : Scopes) (layout : Layout) (bits : List Bool) (entries : List Entry)
+      → Fits clafers scopes layout → Shows clafers scopes layout bits entries → entries ≡ shown layout bits
+  pub spelled : (clafers : List Clafer) (scopes : Scopes) (layout : Layout) (entries : List Entry) → Fits clafers scopes layout
+      → neg_ℤ (pos (2 ^ 63)) ≤ℤ scopes.low → scopes.high <ℤ pos (2 ^ 63) → IsTrue (is_within clafers scopes entries)
+      → IsTrue (is_ordered entries) → IsTrue (is_tree clafers entries) → IsTrue (has_shape clafers scopes entries)
+      → (bits : List Bool) × Shows clafers scopes layout bits entries
+  pub tested : (clafers : List Clafer) (scopes : Scopes) (layout : Layout) (bits : List Bool) (entries : List Entry)
+      → Fits clafers scopes layout → Shows clafers scopes layout bits entries → IsTrue (is_tree clafers entries)
+      → IsTrue (has_shape clafers scopes entries) → are_canonical clafers layout bits ≡ is_canonical clafers entries
   pub canonical : SatisfyingHaveCanonical
 
 -- the bits show the instance that they tell, and it satisfies laws and is canonical
@@ -45,7 +53,8 @@ pub record ShowsLawful (model : Model) (scopes : Scopes) (layout : Layout) (laws
   pub canonical : is_canonical model.clafers (shown layout bits) ≡ true
 
 -- the structure is true at the bits, and the laws hold in what they tell
-pub record TellsLawful (model : Model) (scopes : Scopes) (layout : Layout) (gates : List Gate) (structure : Wire) (laws : List Law) (bits : List Bool) : Type 0 where
+pub record TellsLawful (model : Model) (scopes : Scopes) (layout : Layout) (gates : List Gate) (structure : Wire) (laws : List Law)
+    (bits : List Bool) : Type 0 where
   pub count : length bits ≡ size layout
   pub shaped : is_shaped model.clafers scopes layout bits ≡ true
   pub structured : wire_value gates structure bits ≡ true
@@ -79,8 +88,10 @@ module _ (known : Laws) (model : Model) (scopes : Scopes) (layout : Layout) (gat
 
   -- bits at which the structure is true show the instance that they tell, with the laws that hold in it
   pub shown_lawful : IsOnWires model scopes layout gates structure rules → (laws : List Law) (bits : List Bool) → length bits ≡ size layout
-      → wire_value gates structure bits ≡ true → list_all (holds model.clafers (shown layout bits)) laws ≡ true → ShowsLawful model scopes layout laws bits
-  shown_lawful on laws bits count true_there lawful = met ((known.shaped model.clafers scopes layout bits on.placed.fits on.placed.empty on.placed.acyclic count).0 (left shaped told here))
+      → wire_value gates structure bits ≡ true → list_all (holds model.clafers (shown layout bits)) laws ≡ true
+      → ShowsLawful model scopes layout laws bits
+  shown_lawful on laws bits count true_there lawful = met ((known.shaped model.clafers scopes layout bits on.placed.fits on.placed.empty
+      on.placed.acyclic count).0 (left shaped told here))
     where
       shaped : Bool
       shaped = is_shaped model.clafers scopes layout bits
@@ -96,44 +107,60 @@ module _ (known : Laws) (model : Model) (scopes : Scopes) (layout : Layout) (gat
           let same = known.alone model.clafers scopes layout bits s.entries on.placed.fits s.shows in
           record {
             shows = subst (Shows model.clafers scopes layout bits) same s.shows;
-            satisfied = four (is_within model.clafers scopes (shown layout bits)) (is_tree model.clafers (shown layout bits)) (has_shape model.clafers scopes (shown layout bits)) (list_all (holds model.clafers (shown layout bits)) laws)
-                (ap (is_within model.clafers scopes) (sym same) ∙ s.shows.within) (ap (is_tree model.clafers) (sym same) ∙ s.tree) (ap (has_shape model.clafers scopes) (sym same) ∙ s.shape) lawful;
-            canonical = ap (is_canonical model.clafers) (sym same) ∙ sym (known.tested model.clafers scopes layout bits s.entries on.placed.fits s.shows s.tree s.shape) ∙ right shaped told here;
+            satisfied = four (is_within model.clafers scopes (shown layout bits)) (is_tree model.clafers (shown layout bits))
+                (has_shape model.clafers scopes (shown layout bits)) (list_all (holds model.clafers (shown layout bits)) laws)
+                (ap (is_within model.clafers scopes) (sym same) ∙ s.shows.within) (ap (is_tree model.clafers) (sym same) ∙ s.tree)
+                (ap (has_shape model.clafers scopes) (sym same) ∙ s.shape) lawful;
+            canonical = ap (is_canonical model.clafers) (sym same) ∙ sym
+                (known.tested model.clafers scopes layout bits s.entries on.placed.fits s.shows s.tree s.shape) ∙ right shaped told here;
           }
 
   pub told_lawful : IsOnWires model scopes layout gates structure rules → (laws : List Law) (bits : List Bool) (entries : List Entry)
-      → Shows model.clafers scopes layout bits entries → satisfies_laws model.clafers laws scopes entries ≡ true → is_canonical model.clafers entries ≡ true → TellsLawful model scopes layout gates structure laws bits
+      → Shows model.clafers scopes layout bits entries → satisfies_laws model.clafers laws scopes entries ≡ true
+      → is_canonical model.clafers entries ≡ true → TellsLawful model scopes layout gates structure laws bits
   told_lawful on laws bits entries shows satisfied canonical =
-      let all = apart (is_within model.clafers scopes entries) (is_tree model.clafers entries) (has_shape model.clafers scopes entries) (list_all (holds model.clafers entries) laws) satisfied in
+      let all = apart (is_within model.clafers scopes entries) (is_tree model.clafers entries) (has_shape model.clafers scopes entries)
+      (list_all (holds model.clafers entries) laws) satisfied in
       let same = known.alone model.clafers scopes layout bits entries on.placed.fits shows in
-      let shaped = (known.shaped model.clafers scopes layout bits on.placed.fits on.placed.empty on.placed.acyclic shows.size).1 (record { entries = entries; shows = shows; tree = all.second; shape = all.third }) in
+      let shaped = (known.shaped model.clafers scopes layout bits on.placed.fits on.placed.empty on.placed.acyclic shows.size).1
+      (record { entries = entries; shows = shows; tree = all.second; shape = all.third }) in
       record {
         count = shows.size;
         shaped = shaped;
-        structured = on.structure_is bits ∙ both (is_shaped model.clafers scopes layout bits) (are_canonical model.clafers layout bits) shaped
+        structured = on.structure_is bits ∙ both (is_shaped model.clafers scopes layout bits)
+            (are_canonical model.clafers layout bits) shaped
             (known.tested model.clafers scopes layout bits entries on.placed.fits shows all.second all.third ∙ canonical);
         lawful = ap (λ es. list_all (holds model.clafers es) laws) (sym same) ∙ all.fourth;
       }
 
   -- at shaped bits the wires of the chosen rules are true exactly where the chosen laws hold
-  pub rules_hold : IsOnWires model scopes layout gates structure rules → (fs : List Bool) (bits : List Bool) → length bits ≡ size layout → is_shaped model.clafers scopes layout bits ≡ true
-      → list_all (λ b. b) (wire_values gates (chosen fs rules) bits) ≡ list_all (holds model.clafers (shown layout bits)) (chosen fs (laws_of model))
+  pub rules_hold : IsOnWires model scopes layout gates structure rules → (fs : List Bool) (bits : List Bool) → length bits ≡ size layout
+      → is_shaped model.clafers scopes layout bits ≡ true
+      → list_all (λ b. b) (wire_values gates (chosen fs rules) bits) ≡ list_all (holds model.clafers (shown layout bits))
+      (chosen fs (laws_of model))
   rules_hold on fs bits count shaped =
-      ap (list_all (λ b. b)) (sym (chosen-map (λ w. wire_value gates w bits) fs rules) ∙ ap (chosen fs) (on.rules_are bits count shaped) ∙ chosen-map (holds model.clafers (shown layout bits)) fs (laws_of model))
+      ap (list_all (λ b. b)) (sym (chosen-map (λ w. wire_value gates w bits) fs rules) ∙ ap (chosen fs) (on.rules_are bits count shaped)
+      ∙ chosen-map (holds model.clafers (shown layout bits)) fs (laws_of model))
       ∙ list_all-map (λ b. b) (holds model.clafers (shown layout bits)) (chosen fs (laws_of model))
 
-  pub shaped_there : IsOnWires model scopes layout gates structure rules → (bits : List Bool) → wire_value gates structure bits ≡ true → is_shaped model.clafers scopes layout bits ≡ true
-  shaped_there on bits e = left (is_shaped model.clafers scopes layout bits) (are_canonical model.clafers layout bits) (sym (on.structure_is bits) ∙ e)
+  pub shaped_there : IsOnWires model scopes layout gates structure rules → (bits : List Bool) → wire_value gates structure bits ≡ true
+      → is_shaped model.clafers scopes layout bits ≡ true
+  shaped_there on bits e = left (is_shaped model.clafers scopes layout bits) (are_canonical model.clafers layout bits)
+      (sym (on.structure_is bits) ∙ e)
 
   -- each instance that satisfies laws has bits
-  pub bits_of : IsOnWires model scopes layout gates structure rules → (entries : List Entry) (laws : List Law) → is_ordered entries ≡ true → satisfies_laws model.clafers laws scopes entries ≡ true
+  pub bits_of : IsOnWires model scopes layout gates structure rules → (entries : List Entry) (laws : List Law) → is_ordered entries ≡ true
+      → satisfies_laws model.clafers laws scopes entries ≡ true
       → (bits : List Bool) × Shows model.clafers scopes layout bits entries
   bits_of on entries laws ordered satisfied =
-      let all = apart (is_within model.clafers scopes entries) (is_tree model.clafers entries) (has_shape model.clafers scopes entries) (list_all (holds model.clafers entries) laws) satisfied in
+      let all = apart (is_within model.clafers scopes entries) (is_tree model.clafers entries) (has_shape model.clafers scopes entries)
+      (list_all (holds model.clafers entries) laws) satisfied in
       known.spelled model.clafers scopes layout entries on.placed.fits on.placed.low on.placed.high all.first ordered all.second all.third
 
   -- at shaped bits all rules are true exactly where all laws hold
-  pub all_rules_hold : IsOnWires model scopes layout gates structure rules → (bits : List Bool) → length bits ≡ size layout → is_shaped model.clafers scopes layout bits ≡ true
+  pub all_rules_hold : IsOnWires model scopes layout gates structure rules → (bits : List Bool) → length bits ≡ size layout
+      → is_shaped model.clafers scopes layout bits ≡ true
       → list_all (λ b. b) (wire_values gates rules bits) ≡ list_all (holds model.clafers (shown layout bits)) (laws_of model)
   all_rules_hold on bits count shaped =
-      ap (list_all (λ b. b)) (on.rules_are bits count shaped) ∙ list_all-map (λ b. b) (holds model.clafers (shown layout bits)) (laws_of model)
+      ap (list_all (λ b. b)) (on.rules_are bits count shaped) ∙ list_all-map (λ b. b) (holds model.clafers (shown layout bits))
+      (laws_of model)

@@ -66,7 +66,8 @@ true_units v (w ∷ ws) h =
 
 -- where each variable has the value of its wire, all variables are true exactly where all wires are
 values_agree : (gates : List Gate) (v : ℕ → Bool) (bits : List Bool) (ws : List Wire) → AreWiresOf gates ws
-    → ((w : Wire) → IsWireOf gates w → v w.number ≡ wire_value gates w bits) → list_all (λ w. v w.number) ws ≡ list_all (λ b. b) (wire_values gates ws bits)
+    → ((w : Wire) → IsWireOf gates w → v w.number ≡ wire_value gates w bits)
+    → list_all (λ w. v w.number) ws ≡ list_all (λ b. b) (wire_values gates ws bits)
 values_agree gates v bits [] known same = refl
 values_agree gates v bits (w ∷ ws) known same =
     let here = same w (All-head (IsWireOf gates) w ws known) in
@@ -113,7 +114,8 @@ units_decide gates root store ws encodes known = (solved, found)
         let bits = map v (input_wires gates) in
         let count : length bits ≡ inputs gates = length-map (input_wires gates) v in
         let whole : SatisfiesAll v (encodes.front ++ units_of ws) = subst (λ cs. SatisfiesAll v (cs ++ units_of ws)) front_is all in
-        let same = encodes.only_values bits count v (above_own v (input_wires gates)) (SatisfiesAll-front v encodes.front (units_of ws) whole) in
+        let same = encodes.only_values bits count v (above_own v (input_wires gates))
+        (SatisfiesAll-front v encodes.front (units_of ws) whole) in
         record {
           bits = bits;
           size = count;
@@ -126,5 +128,8 @@ units_decide gates root store ws encodes known = (solved, found)
         met : IsSatisfiableAbove (input_wires gates) h.bits encodes.front → IsSatisfiable (but_last store.clauses ++ units_of ws)
         met (v, above, all) =
             let same = encodes.only_values h.bits h.size v above all in
-            let trues = true_units v ws (values_agree gates v h.bits ws known same ∙ h.hold) in
-            (v, subst (λ cs. SatisfiesAll v (cs ++ units_of ws)) (sym front_is) (All-append (Satisfies v) encodes.front (units_of ws) all trues))
+            let trues = true_units v ws (values_agree gates v h.bits ws known same ∙ h.hold) in (
+              v,
+              subst (λ cs. SatisfiesAll v (cs ++ units_of ws)) (sym front_is)
+                  (All-append (Satisfies v) encodes.front (units_of ws) all trues),
+            )

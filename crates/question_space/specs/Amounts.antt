@@ -28,7 +28,8 @@ TellAmounts clafers scopes layout gates goals numbers =
     (bits : List Bool) → ShowsShaped clafers scopes layout bits → goal_values gates numbers bits ≡ amounts goals (shown layout bits)
 
 -- the numbers of the first n goals
-pub record AreGoals (clafers : List Clafer) (scopes : Scopes) (layout : Layout) (old : List Gate) (goals : List CoreExpr) (n : ℕ) (new : List Gate) (numbers : List (List Wire)) : Type 0 where
+pub record AreGoals (clafers : List Clafer) (scopes : Scopes) (layout : Layout) (old : List Gate) (goals : List CoreExpr) (n : ℕ)
+    (new : List Gate) (numbers : List (List Wire)) : Type 0 where
   pub extends : Extends old new (truths_cost scopes (take n goals))
   pub known : AreNumbers new numbers
   pub tell : TellAmounts clafers scopes layout new (take n goals) numbers

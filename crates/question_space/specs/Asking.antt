@@ -41,7 +41,8 @@ AreExact model scopes question layout clauses =
     → IsSatisfiableAbove (numbers_below (size layout)) bits clauses ↔ ShowsAnswer model scopes question layout bits
 
 -- an instance is isomorphic to one that bits show above which the clauses can be satisfied
-pub record IsAnsweredBy (model : Model) (scopes : Scopes) (layout : Layout) (clauses : List (List Literal)) (entries : List Entry) : Type 0 where
+pub record IsAnsweredBy (model : Model) (scopes : Scopes) (layout : Layout) (clauses : List (List Literal))
+    (entries : List Entry) : Type 0 where
   pub others : List Entry
   pub bits : List Bool
   pub isomorphic : IsIsomorphic scopes entries others

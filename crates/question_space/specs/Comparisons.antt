@@ -1,5 +1,5 @@
 -- Vectors compared with the numbers of goals on wires.
-use Rattle.std.specs.Prelude.{◌≡◌, ◌+◌, ◌*◌, ℕ, Bool, true, false, List, [], length, map, take, ℤ}
+use Rattle.std.specs.Prelude.{◌≡◌, ◌+◌, ◌*◌, ℕ, Bool, true, false, List, length, map, take, ℤ}
 use Rattle.std.specs.List.{All}
 use Rattle.std.specs.Option.{option_map_or}
 use Rattle.bool_circuit.specs.declared.gate.Gate.{Gate}
@@ -30,13 +30,15 @@ differs true ways u v = is_better_somewhere ways v u
 differs false ways u v = is_better_somewhere ways u v
 
 -- a wire tells whether some of the first n goals is worse, or is better, than in a vector
-pub record IsCompared (worse : Bool) (old : List Gate) (goals : List Goal) (numbers : List (List Wire)) (vector : List ℤ) (n : ℕ) (new : List Gate) (wire : Wire) : Type 0 where
+pub record IsCompared (worse : Bool) (old : List Gate) (goals : List Goal) (numbers : List (List Wire)) (vector : List ℤ) (n : ℕ)
+    (new : List Gate) (wire : Wire) : Type 0 where
   pub extends : Extends old new (vector_cost n)
   pub known : IsWireOf new wire
   pub value : (bits : List Bool) → wire_value new wire bits ≡ differs worse (ways_in (take n goals)) (goal_values old numbers bits) vector
 
 -- wires tell for each of the first n vectors whether some goal is better than in it
-pub record AreBlocks (old : List Gate) (goals : List Goal) (numbers : List (List Wire)) (found : List Vector) (n : ℕ) (new : List Gate) (wires : List Wire) : Type 0 where
+pub record AreBlocks (old : List Gate) (goals : List Goal) (numbers : List (List Wire)) (found : List Vector) (n : ℕ) (new : List Gate)
+    (wires : List Wire) : Type 0 where
   pub extends : Extends old new (n * vector_cost (length goals))
   pub known : AreWiresOf new wires
   pub values : (bits : List Bool)
@@ -47,7 +49,8 @@ abbrev pub tests_cost : ℕ → Question → ℕ
 tests_cost goals question = length question.found * vector_cost goals + option_map_or (λ w. 2 * vector_cost goals + 2) question.improve 0
 
 -- wires tell what the vectors of a question ask of the numbers
-pub record AreTests (old : List Gate) (goals : List Goal) (numbers : List (List Wire)) (question : Question) (new : List Gate) (wires : List Wire) : Type 0 where
+pub record AreTests (old : List Gate) (goals : List Goal) (numbers : List (List Wire)) (question : Question) (new : List Gate)
+    (wires : List Wire) : Type 0 where
   pub extends : Extends old new (tests_cost (length goals) question)
   pub known : AreWiresOf new wires
   pub values : (bits : List Bool) → wire_values new wires bits ≡ question_tests (ways_in goals) question (goal_values old numbers bits)

@@ -38,7 +38,8 @@ TellRules model scopes layout gates rules =
 
 -- the inputs are the bits of the layout, one wire tells whether bits show a tree of the right shape that is canonical, and one for each
 -- constraint whether it holds in that instance
-pub record IsOnWires (model : Model) (scopes : Scopes) (layout : Layout) (gates : List Gate) (structure : Wire) (rules : List Wire) : Type 0 where
+pub record IsOnWires (model : Model) (scopes : Scopes) (layout : Layout) (gates : List Gate) (structure : Wire)
+    (rules : List Wire) : Type 0 where
   pub placed : IsPlaced model scopes layout
   pub laid : IsLaid gates layout
   pub inputs : input_wires gates ≡ numbers_below (size layout)
@@ -54,7 +55,8 @@ abbrev pub all_hold : List Gate → Wire → List Wire → List Bool → Bool
 all_hold gates first others bits = wire_value gates first bits && list_all (λ b. b) (wire_values gates others bits)
 
 -- beside them one wire that is true where all those are, and no more wires than a weight
-pub record IsWired (model : Model) (scopes : Scopes) (weight : ℕ) (layout : Layout) (gates : List Gate) (structure : Wire) (rules : List Wire) (whole : Wire) : Type 0 where
+pub record IsWired (model : Model) (scopes : Scopes) (weight : ℕ) (layout : Layout) (gates : List Gate) (structure : Wire)
+    (rules : List Wire) (whole : Wire) : Type 0 where
   pub wires : IsOnWires model scopes layout gates structure rules
   pub whole_in : IsWireOf gates whole
   pub whole_is : (bits : List Bool) → wire_value gates whole bits ≡ all_hold gates structure rules bits

@@ -36,7 +36,8 @@ chosen_clauses choice question clauses parts = but_last clauses ++ map unit (cho
 
 -- the clauses have a solution exactly where the question has an answer; and without the last clause, with any choice of the parts as
 -- units, exactly where the chosen model has an instance whose vector the chosen question admits
-pub record IsPosed (model : Model) (scopes : Scopes) (question : Question) (clauses : List (List Literal)) (parts : List Literal) : Type 0 where
+pub record IsPosed (model : Model) (scopes : Scopes) (question : Question) (clauses : List (List Literal))
+    (parts : List Literal) : Type 0 where
   pub whole : IsSatisfiable clauses ↔ Answers model scopes question
   pub count : length parts ≡ 1 + length model.rules + length question.found + option_map_or (λ v. 1) question.improve 0
   pub some : 0 < length clauses

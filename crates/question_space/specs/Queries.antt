@@ -25,7 +25,8 @@ use Rattle.question_space.specs.Amounts.{TellVector}
 use Rattle.question_space.specs.Vectors.{question_cost, question_tests}
 
 -- the model on wires, with the numbers of its goals
-pub record HasGoals (model : Model) (scopes : Scopes) (limit : ℕ) (layout : Layout) (gates : List Gate) (structure : Wire) (rules : List Wire) (whole : Wire) (numbers : List (List Wire)) : Type 0 where
+pub record HasGoals (model : Model) (scopes : Scopes) (limit : ℕ) (layout : Layout) (gates : List Gate) (structure : Wire)
+    (rules : List Wire) (whole : Wire) (numbers : List (List Wire)) : Type 0 where
   pub wired : IsWired model scopes limit layout gates structure rules whole
   pub numbers_in : AreNumbers gates numbers
   pub tell : TellVector model scopes layout gates numbers
@@ -37,7 +38,8 @@ TellTests model scopes question layout gates tests =
     → wire_values gates tests bits ≡ question_tests (ways_of model) question (vector_of model (shown layout bits))
 
 -- the model on wires, a wire for each vector of the question, and one that is true where structure, constraints and vectors are
-pub record IsAsked (model : Model) (scopes : Scopes) (question : Question) (limit : ℕ) (layout : Layout) (gates : List Gate) (structure : Wire) (rules tests : List Wire) (root : Wire) : Type 0 where
+pub record IsAsked (model : Model) (scopes : Scopes) (question : Question) (limit : ℕ) (layout : Layout) (gates : List Gate)
+    (structure : Wire) (rules tests : List Wire) (root : Wire) : Type 0 where
   pub wires : IsOnWires model scopes layout gates structure rules
   pub tests_in : AreWiresOf gates tests
   pub many : length tests ≡ length question.found + option_map_or (λ v. 1) question.improve 0

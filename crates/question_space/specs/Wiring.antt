@@ -42,7 +42,8 @@ TellTruths clafers scopes layout gates truths wires =
     (bits : List Bool) → ShowsShaped clafers scopes layout bits → wire_values gates wires bits ≡ meanings truths (shown layout bits)
 
 -- the wires of the first n truths
-pub record AreRulesSoFar (clafers : List Clafer) (scopes : Scopes) (layout : Layout) (old : List Gate) (truths : List CoreExpr) (n : ℕ) (new : List Gate) (wires : List Wire) : Type 0 where
+pub record AreRulesSoFar (clafers : List Clafer) (scopes : Scopes) (layout : Layout) (old : List Gate) (truths : List CoreExpr) (n : ℕ)
+    (new : List Gate) (wires : List Wire) : Type 0 where
   pub extends : Extends old new (truths_cost scopes (take n truths))
   pub known : AreWiresOf new wires
   pub count : length wires ≡ n
@@ -83,8 +84,8 @@ pub record IsLowered (model : Model) (scopes : Scopes) (core_model : CoreModel) 
   pub sound_goals : AreSoundGoals core_model.clafers scopes core_model.goals
   pub light_goals : IsTrue (each_pair (is_light_goal model.clafers scopes) core_model.goals model.goals)
 
--- the layout, the structure, truths that are lighter than the constraints, and a conjunction of them take no more wires than the model weighs,
--- where it weighs 8,000,000 at most; supers are abstract, abstract clafers have the scope 0, and the range of integers is not empty
+-- the layout, the structure, truths that are lighter than the constraints, and a conjunction of them take no more wires than the model
+-- weighs, where it weighs 8,000,000 at most; supers are abstract, abstract clafers have the scope 0, and the range of integers is not empty
 abbrev pub AreWithinWeight : Model → Scopes → Layout → List CoreExpr → Type 0
 AreWithinWeight model scopes layout truths =
     Fits model.clafers scopes layout → IsTrue (abstract_are_empty model.clafers scopes)

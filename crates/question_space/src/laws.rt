@@ -10,7 +10,8 @@ ghost use Rattle.question_space.specs.Wiring.{AreGoalsWithinWeight, AreWithinWei
 use canonical_encoder::canonical_shapes_are_within_the_weight;
 
 /// The layout, the structure, all constraints and a conjunction of them take no more wires than the model weighs, where it weighs
-/// 8,000,000 at most. Supers are abstract and stand at top level, abstract clafers have the scope 0, and the range of integers is not empty.
+/// 8,000,000 at most. Supers are abstract and stand at top level, abstract clafers have the scope 0, and the range of integers is not
+/// empty.
 pub fn questions_are_within_the_weight()
     ensures { (model : Model) (scopes : Scopes) (layout : Layout) (truths : Items CoreExpr) → AreWithinWeight model scopes layout truths }
 {

@@ -1,7 +1,9 @@
 //! Questions about the instances of a model.
 //!
-//! A `Space` has the structure and the constraints of a model on wires. `ask` gives the question to the certified solver as clauses, and
-//! answers with an instance, with a refutation that a checker has accepted, or with a derivation on which the budget is spent.
+//! A `Space` has the structure and the constraints of a model on wires. The structure asks for canonical instances: of all numberings of
+//! one instance it lets few through, and each instance is isomorphic to one that it lets through. `ask` gives the question to the certified
+//! solver as clauses, and answers with a canonical instance, with a refutation that a checker has accepted, or with a derivation on which the
+//! budget is spent.
 #![tactic(auto)]
 
 mod claims;
