@@ -6,8 +6,8 @@ use Rattle.std.specs.Option.{option_map_or}
 use Rattle.json.specs.Print.{quoted}
 use Rattle.serde_json.specs.Data.{null}
 use Rattle.serde_json.proofs.OnLiterals.{serde_json_on_literals}
-use Rattle.serde_json.specs.Find.{of_integer}
-use Rattle.serde_json.specs.Written.{has_float, compact_text, number_text, is_float}
+use Rattle.serde_json.specs.Find.{of_integer, is_float}
+use Rattle.serde_json.specs.Written.{has_float, compact_text, number_text}
 use Rattle.clf_tree.specs.declared.model.Clafer.{Clafer}
 use Rattle.clf_tree.specs.declared.instance.Node.{Node}
 use Rattle.clf_tree.specs.declared.instance.Target.{Target}
@@ -34,7 +34,12 @@ four : (a n b p d : List ℕ) → (((a ++ n) ++ b) ++ p) ++ d ≡ a ++ (n ++ (b 
 four a n b p d = simp append_assoc
 
 -- an object with three members, and an array of two
-entry_shape : (n p t : List ℕ) → 123 ∷ (quoted (codes "name") ++ 58 ∷ (n ++ 44 ∷ (quoted (codes "parent") ++ 58 ∷ (p ++ 44 ∷ (quoted (codes "target") ++ 58 ∷ (t ++ 125 ∷ []))))))
+abbrev object_text : List ℕ → List ℕ → List ℕ → List ℕ
+object_text n p t =
+    123 ∷ (quoted (codes "name") ++ 58 ∷ (n ++ 44 ∷ (quoted (codes "parent") ++ 58 ∷ (p ++ 44 ∷ (quoted (codes "target")
+    ++ 58 ∷ (t ++ 125 ∷ []))))))
+
+entry_shape : (n p t : List ℕ) → object_text n p t
     ≡ codes "{\"name\":" ++ n ++ codes ",\"parent\":" ++ p ++ codes ",\"target\":" ++ t ++ codes "}"
 unfolding serde_json_on_literals
 entry_shape n p t = sym (six (codes "{\"name\":") n (codes ",\"parent\":") p (codes ",\"target\":") t (codes "}"))
@@ -42,7 +47,8 @@ entry_shape n p t = sym (six (codes "{\"name\":") n (codes ",\"parent\":") p (co
 scope_shape : (path scope : List ℕ) → 91 ∷ (path ++ 44 ∷ (scope ++ 93 ∷ [])) ≡ codes "[" ++ path ++ codes "," ++ scope ++ codes "]"
 scope_shape path scope = sym (four (codes "[") path (codes ",") scope (codes "]"))
 
-parent_text : (clafers : List Clafer) (parent : Option Node) → compact_text (option_map_or (node_data clafers) parent null) ≡ option_map_or (λ n. quoted (shown_node clafers n)) parent null_json
+parent_text : (clafers : List Clafer) (parent : Option Node) → compact_text (option_map_or (node_data clafers) parent null)
+    ≡ option_map_or (λ n. quoted (shown_node clafers n)) parent null_json
 parent_text clafers None = refl
 parent_text clafers (Some n) = refl
 
@@ -50,7 +56,8 @@ parent_no_float : (clafers : List Clafer) (parent : Option Node) → has_float (
 parent_no_float clafers None = refl
 parent_no_float clafers (Some n) = refl
 
-target_text : (clafers : List Clafer) (to : Option Target) → compact_text (option_map_or (target_data clafers) to null) ≡ option_map_or (target_json clafers) to null_json
+target_text : (clafers : List Clafer) (to : Option Target) → compact_text (option_map_or (target_data clafers) to null)
+    ≡ option_map_or (target_json clafers) to null_json
 target_text clafers None = refl
 target_text clafers (Some (target.Int z)) = integer_text z
 target_text clafers (Some (target.Node n)) = refl
@@ -63,18 +70,19 @@ target_no_float clafers (Some (target.Node n)) = refl
 pub entry_text : (clafers : List Clafer) (e : Entry) → compact_text (entry_data clafers e) ≡ entry_json clafers e
 entry_text clafers e =
     let name = quoted (shown_node clafers e.node) in
-    ap (λ p. 123 ∷ (quoted (codes "name") ++ 58 ∷ (name ++ 44 ∷ (quoted (codes "parent") ++ 58 ∷ (p ++ 44 ∷ (quoted (codes "target") ++ 58 ∷ (compact_text (option_map_or (target_data clafers) e.target null) ++ 125 ∷ [])))))))
-    (parent_text clafers e.parent)
-    ∙ ap (λ t. 123 ∷ (quoted (codes "name") ++ 58 ∷ (name ++ 44 ∷ (quoted (codes "parent") ++ 58 ∷ (option_map_or (λ n. quoted (shown_node clafers n)) e.parent null_json ++ 44 ∷ (quoted (codes "target") ++ 58 ∷ (t ++ 125 ∷ [])))))))
-    (target_text clafers e.target)
-    ∙ entry_shape name (option_map_or (λ n. quoted (shown_node clafers n)) e.parent null_json) (option_map_or (target_json clafers) e.target null_json)
+    let parent = option_map_or (λ n. quoted (shown_node clafers n)) e.parent null_json in
+    let target = option_map_or (target_json clafers) e.target null_json in
+    ap (λ p. object_text name p (compact_text (option_map_or (target_data clafers) e.target null))) (parent_text clafers e.parent)
+    ∙ ap (λ t. object_text name parent t) (target_text clafers e.target)
+    ∙ entry_shape name parent target
 
 pub entry_no_float : (clafers : List Clafer) (e : Entry) → has_float (entry_data clafers e) ≡ false
 entry_no_float clafers e =
     ap (λ p. p || (has_float (option_map_or (target_data clafers) e.target null) || false)) (parent_no_float clafers e.parent)
     ∙ ap (λ t. t || false) (target_no_float clafers e.target)
 
-pub scope_text : (clafers : List Clafer) (scopes : Scopes) (c : ℕ) → compact_text (scope_data clafers scopes c) ≡ scope_json clafers scopes c
+pub scope_text : (clafers : List Clafer) (scopes : Scopes) (c : ℕ)
+    → compact_text (scope_data clafers scopes c) ≡ scope_json clafers scopes c
 scope_text clafers scopes c = scope_shape (quoted (path_of clafers c)) (decimal (scope_of scopes c))
 
 pub scope_no_float : (clafers : List Clafer) (scopes : Scopes) (c : ℕ) → has_float (scope_data clafers scopes c) ≡ false

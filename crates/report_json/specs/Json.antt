@@ -6,13 +6,11 @@ use Rattle.std.specs.List.{flat_map, filter, list_all}
 use Rattle.json.specs.Print.{quoted}
 use Rattle.clf_tree.specs.declared.model.Model.{Model}
 use Rattle.clf_tree.specs.declared.model.Clafer.{Clafer}
-use Rattle.clf_tree.specs.declared.instance.Node.{Node}
 use Rattle.clf_tree.specs.declared.instance.Target.{Target}
 use Rattle.clf_tree.specs.declared.instance.Target.TheVariants as target
 use Rattle.clf_tree.specs.declared.instance.Entry.{Entry}
 use Rattle.clf_tree.specs.declared.scopes.Scopes.{Scopes}
 use Rattle.clf_tree.specs.declared.vector.Point.{Point}
-use Rattle.clf_tree.specs.declared.vector.Front.{Front}
 use Rattle.clf_tree.specs.declared.vector.FrontEnd.{FrontEnd}
 use Rattle.clf_tree.specs.declared.vector.FrontEnd.TheVariants as ends
 use Rattle.clf_tree.specs.Lists.{numbers_below}

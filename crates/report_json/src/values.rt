@@ -17,7 +17,7 @@ use clf_tree::{Clafer, Entry, Node, Scopes, Target};
 use instance_text::{push_node, push_path};
 use itoa::Buffer;
 use serde_json::{Value, json};
-use std::alloc::Global;
+use std::alloc::{AllocError, Global};
 
 fn as_text(bytes: &[u8]) -> &str
     requires { IsAscii bytes.now }
@@ -103,6 +103,17 @@ fn target_value(
     }
 }
 
+fn node_object(
+    alloc: Global,
+    name: Value,
+    parent: Value,
+    target: Value,
+) -> Result<Value, AllocError>
+    ensures { IfOk result (λ value. view value ≡ spec.object_of_node (view name) (view parent) (view target)) }
+{
+    json!(in alloc; {"name": name, "parent": parent, "target": target})
+}
+
 /// A node with its parent and its target.
 fn entry_value(alloc: Global, clafers: &[Clafer], entry: &Entry) -> Result<Value, NoMemory>
     requires { HaveNames clafers.now }
@@ -111,7 +122,7 @@ fn entry_value(alloc: Global, clafers: &[Clafer], entry: &Entry) -> Result<Value
     let name = node_value(alloc, clafers, entry.node)?;
     let parent = parent_value(alloc, clafers, entry.parent)?;
     let target = target_value(alloc, clafers, entry.target)?;
-    let value = json!(in alloc; {"name": name, "parent": parent, "target": target})?;
+    let value = node_object(alloc, name, parent, target)?;
     Ok(value)
 }
 
@@ -139,6 +150,12 @@ fn scope_of(scopes: &Scopes, clafer: usize) -> u32
     }
 }
 
+fn scope_pair(alloc: Global, path: Value, scope: u32) -> Result<Value, AllocError>
+    ensures { IfOk result (λ value. view value ≡ spec.pair_of_scope (view path) scope) }
+{
+    json!(in alloc; [path, scope])
+}
+
 /// The path of a clafer and its scope.
 fn scope_value(
     alloc: Global,
@@ -152,7 +169,7 @@ fn scope_value(
     let mut path = List::new(alloc);
     push_path(&mut path, clafers, clafers.len(), clafer)?;
     let path = text_value(alloc, path.as_slice())?;
-    let value = json!(in alloc; [path, (scope_of(scopes, clafer))])?;
+    let value = scope_pair(alloc, path, scope_of(scopes, clafer))?;
     Ok(value)
 }
 

@@ -1,5 +1,5 @@
 -- The children so far are there.
-use Rattle.std.proofs.Common.{◌≡◌, ◌++◌, ◌∷◌, [], ◌-◌, take}
+use Rattle.std.proofs.Common.{◌≡◌, ◌++◌, ◌-◌, take}
 use Rattle.std.specs.List.{filter, flat_map}
 use Rattle.clf_tree.specs.Shape.{is_child_of}
 use Rattle.report_json.specs.TreeOrder.{subtree}
