@@ -130,9 +130,8 @@ too_long_by read budget clauses parts s searched none (ended.Full further) is en
       all = ends.all;
       further = further;
       satisfied = ends.satisfied;
-      member = ends.optimal;
+      optimal = ends.optimal;
       outside = ends.outside;
-      more = ends.more;
       ended = is;
       claims = ends.claims;
     }

@@ -5,10 +5,10 @@ use Rattle.clf_tree.specs.declared.vector.Front.{Front}
 use Rattle.clf_tree.specs.declared.vector.FrontEnd.{FrontEnd}
 use Rattle.clf_tree.specs.declared.vector.FrontEnd.TheVariants.{Finished, Spent, Full}
 use Rattle.clf_tree.specs.declared.vector.Question.{Question}
-use Rattle.clf_tree.specs.Front.{IsOptimal, IsFront}
+use Rattle.clf_tree.specs.Front.{IsFront, IsOptimal}
 use Rattle.clf_tree.specs.Satisfies.{satisfies, vector_of}
 use Rattle.any_instance.specs.Settled.{IsRefuted}
-use Rattle.goal_vectors.specs.Points.{vectors_of, found_of, IsOutside, ArePoints, HasMore}
+use Rattle.goal_vectors.specs.Points.{vectors_of, found_of, ArePoints, IsOutside}
 use Rattle.model_reader.specs.declared.reader.Read.{Read}
 use Rattle.question_space.specs.declared.spending.Spending.{Spending}
 use Rattle.question_space.specs.Spendings.{IsSpending, IsClosing}
@@ -45,15 +45,14 @@ pub record IsPart (read : Read) (budget : ℕ) (spent : Spending) (found : Front
   pub short : read.model.goals ≡ [] → budget < 3 ^ (read.weight + 24)
 
 -- the points are members of the front, in order, each with an instance that has its vector, with a claim for each; they are as many as
--- are told, and the front has a further member: the vector of an instance, which is better somewhere than each of theirs
+-- are told, and the front has a further member: the vector of an instance, which is none of theirs
 pub record IsTooLong (read : Read) (found : Front) : Type 0 where
   pub points : ArePoints read.model read.scopes found.points
   pub all : length found.points ≡ most_points
   pub further : Instance
   pub satisfied : IsTrue (satisfies read.model read.scopes further.entries)
-  pub member : IsOptimal read.model read.scopes (vector_of read.model further.entries)
+  pub optimal : IsOptimal read.model read.scopes (vector_of read.model further.entries)
   pub outside : IsOutside read.model (vectors_of found.points) (vector_of read.model further.entries)
-  pub more : HasMore read.model read.scopes (vectors_of found.points)
   pub ended : found.ended ≡ Full further
   pub claims : found.claims ≡ length found.points
 
