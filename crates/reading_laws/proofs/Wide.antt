@@ -29,11 +29,13 @@ none_wide (n ∷ ns) h =
     let j = parts (is_narrow n) (list_all is_narrow ns) h in
     ap (λ b. cond b [] (refused 90 n.at (width n.bounds) ∷ []) ++ wide_among ns) j.0 ∙ none_wide ns j.1
 
-each_narrow : {X : Type 0} (f : X → List Numeric) (xs : List X) → list_all (λ x. list_all is_narrow (f x)) xs ≡ true → list_all is_narrow (flat_map f xs) ≡ true
+each_narrow : {X : Type 0} (f : X → List Numeric) (xs : List X)
+    → list_all (λ x. list_all is_narrow (f x)) xs ≡ true → list_all is_narrow (flat_map f xs) ≡ true
 each_narrow f [] h = refl
 each_narrow f (x ∷ xs) h =
     let j = parts (list_all is_narrow (f x)) (list_all (λ y. list_all is_narrow (f y)) xs) h in
-    list_all-append is_narrow (f x) (flat_map f xs) ∙ both (list_all is_narrow (f x)) (list_all is_narrow (flat_map f xs)) j.0 (each_narrow f xs j.1)
+    list_all-append is_narrow (f x) (flat_map f xs) ∙ both (list_all is_narrow (f x)) (list_all is_narrow (flat_map f xs)) j.0
+    (each_narrow f xs j.1)
 
 abbrev law_of : Rule → Law
 law_of r = (r.context, tree r.body)
@@ -42,7 +44,10 @@ pub none_refused : (scopes : Scopes) (m : Model) → is_narrow_model scopes m �
 none_refused scopes m h =
     let rules = flat_map (integers_of_rule m.clafers scopes) m.rules in
     let goals = flat_map (integers_of_goal m.clafers scopes) m.goals in
-    let j = parts (list_all (is_narrow_law m.clafers scopes) (map law_of m.rules)) (list_all (λ (g : Goal). is_narrow_goal m.clafers scopes (tree g.body)) m.goals) h in
-    let of_rules = each_narrow (integers_of_rule m.clafers scopes) m.rules (sym (list_all-map (is_narrow_law m.clafers scopes) law_of m.rules) ∙ j.0) in
+    let j = parts (list_all (is_narrow_law m.clafers scopes) (map law_of m.rules))
+    (list_all (λ (g : Goal). is_narrow_goal m.clafers scopes (tree g.body)) m.goals) h in
+    let of_rules = each_narrow (integers_of_rule m.clafers scopes) m.rules
+    (sym (list_all-map (is_narrow_law m.clafers scopes) law_of m.rules) ∙ j.0) in
     let of_goals = each_narrow (integers_of_goal m.clafers scopes) m.goals j.1 in
-    ap first_refusal (none_wide (integers_of scopes m) (list_all-append is_narrow rules goals ∙ both (list_all is_narrow rules) (list_all is_narrow goals) of_rules of_goals))
+    ap first_refusal (none_wide (integers_of scopes m)
+    (list_all-append is_narrow rules goals ∙ both (list_all is_narrow rules) (list_all is_narrow goals) of_rules of_goals))

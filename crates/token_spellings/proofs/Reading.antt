@@ -1,5 +1,5 @@
 -- A text is read as a word or a sign exactly where it is how that one is written.
-use Rattle.std.proofs.Common.{◌≡◌, ◌↔◌, ℕ, Bool, true, false, ◌&&◌, cond, List, [], ◌∷◌, Option, Some, ◌⊎◌, inl, inr, ⊎_elim, refl, sym, ap, ◌∙◌, arith}
+use Rattle.std.proofs.Common.{◌≡◌, ℕ, Bool, true, false, ◌&&◌, cond, List, [], ◌∷◌, Some, ◌⊎◌, inl, inr, ⊎_elim, refl, sym, ap, ◌∙◌, arith}
 use Rattle.std.specs.Prelude.{bytes_eq, unwrap_or}
 use Rattle.std.specs.List.{list_all}
 use Rattle.std.specs.Option.{option_map}
@@ -24,13 +24,16 @@ both false b e = cc
 
 -- where each entry of a table has the text that its meaning is written in, what is found is written in the text that was sought
 found_is_written : {K X : Type 0} (es : List (K × X)) (read : K → List ℕ) (written : X → List ℕ) (text : List ℕ) (x : X)
-    → list_all (λ (e : K × X). bytes_eq (written e.1) (read e.0)) es ≡ true → lookup (λ k. bytes_eq (read k) text) es ≡ Some x → text ≡ written x
+    → list_all (λ (e : K × X). bytes_eq (written e.1) (read e.0)) es ≡ true
+    → lookup (λ k. bytes_eq (read k) text) es ≡ Some x → text ≡ written x
 found_is_written [] read written text x all found = cc
 found_is_written (e ∷ es) read written text x all found =
     let here = both (bytes_eq (written e.1) (read e.0)) (list_all (λ e. bytes_eq (written e.1) (read e.0)) es) all in
     let same : written e.1 ≡ read e.0 = grind (arith, bytes_eq-Decides (written e.1) (read e.0), here.0) in
     ⊎_elim
-    (λ first. let sought : read e.0 ≡ text = grind (arith, bytes_eq-Decides (read e.0) text, first.0) in sym sought ∙ sym same ∙ ap (λ o. unwrap_or (option_map written o) (written x)) first.1)
+    (λ first.
+    let sought : read e.0 ≡ text = grind (arith, bytes_eq-Decides (read e.0) text, first.0) in
+    sym sought ∙ sym same ∙ ap (λ o. unwrap_or (option_map written o) (written x)) first.1)
     (λ later. found_is_written es read written text x here.1 later.1)
     (chosen (bytes_eq (read e.0) text) (Some e.1) (lookup (λ k. bytes_eq (read k) text) es) (Some x) found)
 
