@@ -28,7 +28,7 @@ use std::io::BufRead;
 const FEW_POINTS: u32 = 3;
 
 /// How many clauses a question may take then.
-const SMALL_BUDGET: u64 = 300;
+const SMALL_BUDGET: u64 = 100_000;
 
 /// Tells of a search.
 fn show_count(rt: &HostRuntime, name: &str, count: Count) -> Result<()> {
@@ -123,14 +123,28 @@ fn time_samples(rt: &HostRuntime, guide: &Guide, word: Option<String>) -> Result
     show_sample(rt, &samples[number], ask)
 }
 
+/// Tells the vector of a point.
+fn show_vector(rt: &HostRuntime, values: &[i128]) -> Result<()> {
+    print!(rt; " (")?;
+    for (at, value) in values.iter().enumerate() {
+        let value = *value;
+        if at > 0 {
+            print!(rt; " ")?;
+        }
+        print!(rt; "{value}")?;
+    }
+    print!(rt; ")")?;
+    Ok(())
+}
+
 /// Tells the vectors of points.
 fn show_vectors(rt: &HostRuntime, points: &[Point]) -> Result<()> {
+    if points.is_empty() {
+        return Ok(());
+    }
+    print!(rt; " ")?;
     for point in points {
-        print!(rt; " ")?;
-        for value in point.vector.values.as_slice() {
-            let value = *value;
-            print!(rt; " {value}")?;
-        }
+        show_vector(rt, point.vector.values.as_slice())?;
     }
     println!(rt; "")?;
     Ok(())

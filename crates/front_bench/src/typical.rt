@@ -18,9 +18,10 @@ fn add(alloc: Global, text: &mut Vec<u8>, line: &str) -> Result<(), AllocError> 
 
 /// Adds a feature with a cost, a gain and a load, which its number decides.
 fn add_priced(alloc: Global, text: &mut Vec<u8>, number: u32) -> Result<(), AllocError> {
-    let cost = number.wrapping_mul(7) % 9 + 1;
-    let gain = number.wrapping_mul(5) % 8 + 1;
-    let load = number.wrapping_mul(3) % 7 + 1;
+    let square = number.wrapping_mul(number) % 11 + 1;
+    let cost = square;
+    let gain = square.wrapping_add(number.wrapping_mul(3) % 5);
+    let load = number.wrapping_mul(7) % 6 + 1;
     let indent = "            ";
     let feature = format!(in alloc;
         "{indent}f{number}\n{indent}    cost : Cost = {cost}\n{indent}    gain : Gain = {gain}\n{indent}    load : Load = {load}\n"
@@ -84,7 +85,7 @@ fn add_block(
     text.extend_from_slice(rule.as_bytes())
 }
 
-/// A product line of ten features a block. In some blocks the alternatives have costs, gains and loads: the least cost, the greatest
+/// A product line of ten features a block. In the first blocks the alternatives have costs, gains and loads: the least cost, the greatest
 /// gain, and with three goals the least load are wanted.
 fn product_line(
     alloc: Global,
@@ -176,53 +177,54 @@ fn keep(samples: &mut Vec<Sample>, name: &'static str, text: Vec<u8>) -> Result<
     Ok(())
 }
 
-/// The models whose fronts are searched.
-pub fn typical(alloc: Global) -> Result<Vec<Sample>, AllocError> {
-    let mut samples = Vec::new(alloc);
+/// Adds the product lines.
+fn add_lines(alloc: Global, samples: &mut Vec<Sample>) -> Result<(), AllocError> {
     keep(
-        &mut samples,
+        samples,
         "50 features, two goals",
         product_line(alloc, 5, 5, 2)?,
     )?;
     keep(
-        &mut samples,
+        samples,
         "50 features, three goals",
         product_line(alloc, 5, 5, 3)?,
     )?;
     keep(
-        &mut samples,
+        samples,
         "100 features, two goals",
-        product_line(alloc, 10, 5, 2)?,
+        product_line(alloc, 10, 7, 2)?,
     )?;
     keep(
-        &mut samples,
+        samples,
         "100 features, three goals",
-        product_line(alloc, 10, 5, 3)?,
+        product_line(alloc, 10, 6, 3)?,
     )?;
     keep(
-        &mut samples,
+        samples,
         "400 features, two goals",
-        product_line(alloc, 40, 5, 2)?,
+        product_line(alloc, 40, 8, 2)?,
     )?;
     keep(
-        &mut samples,
+        samples,
         "400 features, three goals",
-        product_line(alloc, 40, 5, 3)?,
+        product_line(alloc, 40, 6, 3)?,
     )?;
-    keep(
-        &mut samples,
-        "4 tasks on 4 nodes, three goals",
-        tasks_on_nodes(alloc, 4, 4)?,
-    )?;
-    keep(
-        &mut samples,
-        "6 tasks on 4 nodes, three goals",
-        tasks_on_nodes(alloc, 6, 4)?,
-    )?;
+    Ok(())
+}
+
+/// The models whose fronts are searched.
+pub fn typical(alloc: Global) -> Result<Vec<Sample>, AllocError> {
+    let mut samples = Vec::new(alloc);
+    add_lines(alloc, &mut samples)?;
     keep(
         &mut samples,
         "8 tasks on 6 nodes, three goals",
         tasks_on_nodes(alloc, 8, 6)?,
+    )?;
+    keep(
+        &mut samples,
+        "12 tasks on 8 nodes, three goals",
+        tasks_on_nodes(alloc, 12, 8)?,
     )?;
     Ok(samples)
 }
